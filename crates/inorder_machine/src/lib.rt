@@ -1,0 +1,6 @@
+//! The in-order machine.
+#![tactic(auto)]
+
+mod stop;
+
+pub use stop::StopCause;
