@@ -1,0 +1,18 @@
+/// What a retired instruction leaves behind. The state after it follows from the state before it
+/// and this line alone, so a list of lines fixes every state on the way.
+#[derive(Clone, Copy, Debug, PartialEq, Eq)]
+pub struct Retire {
+    /// The address of the instruction.
+    pub pc: u32,
+    pub word: u32,
+    /// The address of the instruction that comes next.
+    pub next: u32,
+    pub write: Write,
+}
+
+/// The registers that an instruction writes, with their new values. A write to x0 is none.
+#[derive(Clone, Copy, Debug, PartialEq, Eq)]
+pub enum Write {
+    None,
+    One { rd: u8, value: u32 },
+}
