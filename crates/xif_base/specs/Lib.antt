@@ -1,0 +1,6 @@
+pub mod Faults
+pub mod Files
+pub mod Output
+pub mod Calls
+pub mod MemoryShelf
+pub mod MemoryOutput

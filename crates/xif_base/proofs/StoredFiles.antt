@@ -1,0 +1,40 @@
+-- The files that the entries of a map are.
+use Rattle.std.proofs.Common.{◌≡◌, ℕ, Bool, true, false, cond, List, [], ◌∷◌, map, Option, Some, String, Vec, string_bytes, refl, sym, ap, ◌∙◌}
+use Rattle.std.specs.Option.{option_map}
+use Rattle.std.specs.Ordering.{nat_cmp, eq_by_cmp}
+use Rattle.std.specs.Cmp.{eq_by_cmp_equiv}
+use Rattle.std.specs.Cmp.Lexicographic.{slice_cmp, nat_list_cmp_total}
+use Rattle.std.specs.String.{string_cmp}
+use Rattle.std.specs.Str.{bytes_eq}
+use Rattle.std.specs.BTreeMap.{BTreeMap, get_by_text, is_at, UpdatesBy}
+use Rattle.std.specs.Map.{lookup}
+use Rattle.std.specs.declared.alloc.Global.{Global}
+use Rattle.std.specs.FinMap.{find, get, insert, get-from_entries, get-insert, same_map, slice_cmp-IsAntisymmetric, nat_cmp-IsAntisymmetric}
+use Rattle.std.proofs.lemmas.Map.Text.{is_eq-slice_cmp, btree_map_updates_text}
+use Rattle.xif_base.specs.MemoryShelf.{entry_of, files_of}
+
+option_map-cond : (b : Bool) (v : Vec ℕ Global) (o : Option (Vec ℕ Global)) → option_map (λ x. x.items) (cond b (Some v) o) ≡ cond b (Some v.items) (option_map (λ x. x.items) o)
+option_map-cond true v o = refl
+option_map-cond false v o = refl
+
+-- to look a name up among the files is to look it up among the entries
+find-entries : (es : List (String Global × Vec ℕ Global)) (name : List ℕ) → find (slice_cmp nat_cmp) name (map entry_of es) ≡ option_map (λ x. x.items) (lookup (is_at (λ k. slice_cmp nat_cmp name (string_bytes k))) es)
+find-entries [] name = refl
+find-entries (e ∷ es) name =
+    ap (cond (eq_by_cmp (slice_cmp nat_cmp) name (string_bytes e.0)) (Some e.1.items)) (find-entries es name)
+    ∙ sym (option_map-cond (eq_by_cmp (slice_cmp nat_cmp) name (string_bytes e.0)) e.1 (lookup (is_at (λ k. slice_cmp nat_cmp name (string_bytes k))) es))
+
+pub get-files_of : (m : BTreeMap (String Global) (Vec ℕ Global)) (name : List ℕ) → get (files_of m) name ≡ option_map (λ x. x.items) (get_by_text m name)
+get-files_of m name = get-from_entries nat_list_cmp_total (map entry_of m.entries) name ∙ find-entries m.entries name
+
+turned : (key name : List ℕ) → bytes_eq key name ≡ eq_by_cmp (slice_cmp nat_cmp) name key
+turned key name = sym (is_eq-slice_cmp key name) ∙ (eq_by_cmp_equiv nat_list_cmp_total).symm key name
+
+-- an entry that is put there is a file that is put there
+pub files_of-updates : (name : List ℕ) (m n : BTreeMap (String Global) (Vec ℕ Global)) (v : Vec ℕ Global) → UpdatesBy string_cmp (λ k. slice_cmp nat_cmp name (string_bytes k)) m n (Some v) → files_of n ≡ insert (files_of m) name v.items
+files_of-updates name m n v u = same_map nat_list_cmp_total (slice_cmp-IsAntisymmetric nat_cmp-IsAntisymmetric) _ _ (λ q.
+    get-files_of n q
+    ∙ ap (option_map (λ x. x.items)) (btree_map_updates_text name m n (Some v) u q)
+    ∙ option_map-cond (bytes_eq name q) v (get_by_text m q)
+    ∙ ap (λ b. cond b (Some v.items) (option_map (λ x. x.items) (get_by_text m q))) (turned name q)
+    ∙ sym (get-insert nat_list_cmp_total (files_of m) name v.items q ∙ ap (cond (eq_by_cmp (slice_cmp nat_cmp) q name) (Some v.items)) (get-files_of m q)))

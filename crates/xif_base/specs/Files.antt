@@ -1,0 +1,28 @@
+-- The files of a shelf, and what a call copies of them.
+use Rattle.std.specs.Prelude.{◌≡◌, ◌≤◌, ◌<◌, ◌-◌, ℕ, List, length, take, drop, Option, Some, None}
+use Rattle.std.specs.Option.{option_map}
+use Rattle.std.specs.Ordering.{nat_cmp}
+use Rattle.std.specs.Cmp.Lexicographic.{slice_cmp}
+use Rattle.std.specs.FinMap as map
+
+-- a finite map from names to bytes
+abbrev pub Files : Type 0
+Files = map.FinMap (slice_cmp nat_cmp) (List ℕ)
+
+-- what is told of one name: nothing; that there is no such file; its bytes
+abbrev pub told : Option Files → List ℕ → Option (Option (List ℕ))
+told files name = option_map (λ m. map.get m name) files
+
+-- the shelf tells its files, and there is none of that name
+abbrev pub IsMissing : Option Files → List ℕ → Type 0
+IsMissing files name = told files name ≡ Some None
+
+-- the shelf tells its files, and the one of that name has these bytes
+abbrev pub HasBytes : Option Files → List ℕ → List ℕ → Type 0
+HasBytes files name bytes = told files name ≡ Some (Some bytes)
+
+-- n bytes of a file from an offset on stand at the front of a buffer: none only at the end of the file, or with no room
+pub record Copies (bytes : List ℕ) (at n : ℕ) (buf : List ℕ) : Type 0 where
+  pub inside : n ≤ length bytes - at
+  pub same : take n buf ≡ take n (drop at bytes)
+  pub some : n ≡ 0 → 0 < length buf → length bytes ≤ at

@@ -1,0 +1,85 @@
+// A whole file, within a limit.
+ghost use Rattle.std.specs.Prelude.{◌≡◌, ◌⊎◌, ◌≤◌, ◌<◌, ℕ, List, length, vec_len, IfOk};
+ghost use Rattle.xif_base.specs.Faults.{Rose};
+ghost use Rattle.xif_base.specs.Files.{IsMissing, HasBytes};
+
+use crate::{Failed, Shelf};
+use std::alloc::{AllocError, Global};
+
+/// Why a file was not read.
+#[derive(Clone, Copy, Debug, PartialEq, Eq)]
+pub enum ReadFail {
+    /// A fetch failed, or the file isn't there.
+    ReadFault,
+    /// The file is longer than the limit.
+    TooBig,
+    NoMemory,
+}
+
+impl From<AllocError> for ReadFail {
+    ghost use Rattle.std.specs.Prelude.{◌≡◌};
+    ghost use Rattle.xif_base.specs.declared.read.ReadFail.TheVariants.{NoMemory};
+
+    ghost from_gives = { λ _ fail. fail ≡ NoMemory };
+
+    fn from(_: AllocError) -> Self {
+        ReadFail::NoMemory
+    }
+}
+
+/// The most bytes that one fetch is asked for.
+const PIECE: usize = 65_536;
+
+/// Reads a whole file of at most `limit` bytes. At most one byte more than the limit is fetched.
+pub fn read_all<S: Shelf>(
+    alloc: Global,
+    shelf: &mut S,
+    name: &str,
+    limit: u64,
+) -> Result<Vec<u8>, ReadFail>
+    // What is read is the file, and it is within the limit.
+    ensures bytes { IfOk result (λ v. (bytes : List ℕ) →
+        HasBytes (S.files shelf.old) name.now bytes → v.items ≡ bytes) }
+    ensures within { IfOk result (λ v. vec_len v ≤ limit) }
+
+    // A read fails only where the shelf had a fault, or tells that there is no such file.
+    ensures missing { IsMissing (S.files shelf.old) name.now →
+        (result ≡ Err ReadFail.ReadFault) ⊎ (result ≡ Err ReadFail.NoMemory) }
+    ensures fault { result ≡ Err ReadFail.ReadFault →
+        Rose (S.fetch_faults shelf.old) (S.fetch_faults shelf.new)
+        ⊎ (IsMissing (S.files shelf.old) name.now
+        × (S.fetch_faults shelf.new ≡ S.fetch_faults shelf.old)) }
+
+    // A file is too big where it is longer than the limit, and only there.
+    ensures too_big { result ≡ Err ReadFail.TooBig → (bytes : List ℕ) →
+        HasBytes (S.files shelf.old) name.now bytes → limit < length bytes }
+    ensures longer { (bytes : List ℕ) →
+        HasBytes (S.files shelf.old) name.now bytes → limit < length bytes →
+        (result ≡ Err ReadFail.TooBig)
+        ⊎ (Rose (S.fetch_faults shelf.old) (S.fetch_faults shelf.new)
+        ⊎ (result ≡ Err ReadFail.NoMemory)) }
+
+    // The shelf has the same files afterwards, and no fewer faults.
+    ensures count { S.fetch_faults shelf.old ≤ S.fetch_faults shelf.new }
+    ensures files { S.files shelf.new ≡ S.files shelf.old }
+
+    // A shelf that says it has no faults earns none, and fails only where there is no such file.
+    ensures stays_faultless { S.faultless shelf.old → S.faultless shelf.new }
+    ensures no_fault { S.faultless shelf.old →
+        S.fetch_faults shelf.new ≡ S.fetch_faults shelf.old }
+    ensures only_missing { S.faultless shelf.old → result ≡ Err ReadFail.ReadFault →
+        IsMissing (S.files shelf.old) name.now }
+{
+    let mut bytes = Vec::new(alloc);
+    let mut piece = vec![in alloc; 0; PIECE]?;
+    loop {
+        let left = limit - bytes.len() as u64;
+        let wanted = PIECE.min(left.saturating_add(1) as usize);
+        match shelf.fetch(name, bytes.len() as u64, &mut piece[..wanted]) {
+            Err(Failed) => return Err(ReadFail::ReadFault),
+            Ok(0) => return Ok(bytes),
+            Ok(count) if count as u64 > left => return Err(ReadFail::TooBig),
+            Ok(count) => bytes.extend_from_slice(&piece[..count])?,
+        }
+    }
+}

@@ -1,0 +1,27 @@
+// All bytes of a text, put to an output.
+ghost use Rattle.std.specs.Prelude.{◌≡◌, ◌≢◌, ◌≤◌, OnOk, OnErr};
+ghost use Rattle.xif_base.specs.Faults.{Rose};
+ghost use Rattle.xif_base.specs.Output.{grown, GrowsByFront};
+
+use crate::{Out, WriteFail};
+
+/// Puts all of the bytes, in as many calls as it takes.
+pub fn put_all<O: Out>(out: &mut O, bytes: &[u8]) -> Result<(), WriteFail>
+    // All of the bytes are put, or a front of them where a put fails.
+    ensures whole { OnOk result (O.put_bytes out.new ≡ grown (O.put_bytes out.old) bytes.now) }
+    ensures front { OnErr result
+        (GrowsByFront (O.put_bytes out.old) (O.put_bytes out.new) bytes.now) }
+    ensures failed { result ≡ Err WriteFail.Failed → Rose (O.faults out.old) (O.faults out.new) }
+    ensures count { O.faults out.old ≤ O.faults out.new }
+
+    // An output that says it has no faults earns none, and lacks at most memory.
+    ensures stays_faultless { O.faultless out.old → O.faultless out.new }
+    ensures no_fault { O.faultless out.old → O.faults out.new ≡ O.faults out.old }
+    ensures only_memory { O.faultless out.old → result ≢ Err WriteFail.Failed }
+{
+    let mut done = 0;
+    while done < bytes.len() {
+        done += out.put(&bytes[done..])?;
+    }
+    Ok(())
+}
