@@ -54,8 +54,10 @@ fn end_word(stop: Option<StopCause>) -> &'static str
 fn push_registers(text: &mut String, registers: &[u32]) -> Result<(), AllocError>
     ensures { OnOk result (string_bytes text.new ≡ string_bytes text.old ++ register_lines registers.now) }
 {
-    for (number, value) in registers.iter().enumerate().skip(1) {
-        push_register(text, number, *value)?;
+    if let [_zero, others @ ..] = registers {
+        for (index, value) in others.iter().enumerate() {
+            push_register(text, index + 1, *value)?;
+        }
     }
     Ok(())
 }
@@ -78,6 +80,6 @@ impl fmt::Display for HexWord {
     ghost output = { λ word. Some (hex_word word.0) };
 
     fn fmt<W: fmt::Write>(&self, f: &mut fmt::Formatter<W>) -> fmt::Result {
-        write!(f, "{:#010x}", self.0)
+        write!(f, "0x{:08x}", self.0)
     }
 }
