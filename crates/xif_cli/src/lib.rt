@@ -1,1 +1,8 @@
+//! The command line: what its words ask for, and what is printed.
+//!
+//! `words` reads the words after the program's name, `report` writes what the in-order commands
+//! print. What each means stands in `specs/`.
 #![tactic(auto)]
+
+mod report;
+mod words;

@@ -1,0 +1,105 @@
+//! The words of the command line.
+ghost use Rattle.std.specs.Prelude.{◌≡◌, ◌^◌, ◌<◌, ◌↔◌, ℕ, [], ◌∷◌, Some, map, IsTrue, IfSome};
+ghost use Rattle.std.specs.Fmt.{decimal};
+ghost use Rattle.std.specs.Option.{option_map};
+ghost use Rattle.std.specs.String.{string_bytes};
+ghost use Rattle.xif_cli.specs.Words.{Form, IsWithin, HasPlainStart, IsCommand, form_of};
+
+/// What the words after the program's name ask for.
+#[derive(Clone, Copy, Debug, PartialEq, Eq)]
+pub(crate) enum Command<'a> {
+    /// `raw IMAGE COUNT`: run a bare image, for at most so many retirements.
+    Raw { image: &'a str, count: u32 },
+    /// `step JOB`: run a job on the in-order machine.
+    Step { job: &'a str },
+    /// `run JOB`: simulate a job.
+    Run { job: &'a str },
+    /// `judge JOB WAVEFORM`: judge a waveform.
+    Judge { job: &'a str, waveform: &'a str },
+    /// `gen SEED COUNT`: make a program of so many instructions, and simulate it.
+    Gen { seed: u32, count: u32 },
+    /// `harts JOB`: simulate a job of several harts.
+    Harts { job: &'a str },
+    /// `replay JOB WAVEFORM`: drive the coprocessor with what a waveform shows.
+    Replay { job: &'a str, waveform: &'a str },
+}
+
+/// What the words ask for; none where they are no form of the command line.
+pub(crate) fn parse_command(words: &[String]) -> Option<Command<'_>>
+    ensures found { IfSome result (λ c. IsCommand (map string_bytes words.now) (form_of c)) }
+    ensures only {
+        (form : Form) → IsCommand (map string_bytes words.now) form → option_map form_of result ≡ Some form
+    }
+{
+    match words {
+        [name, first] => two_words(name.as_str(), first.as_str()),
+        [name, first, second] => three_words(name.as_str(), first.as_str(), second.as_str()),
+        _ => None,
+    }
+}
+
+// The forms of two words.
+fn two_words<'a>(name: &str, first: &'a str) -> Option<Command<'a>>
+    ensures found { IfSome result (λ c. IsCommand (name.now ∷ first.now ∷ []) (form_of c)) }
+    ensures only {
+        (form : Form) → IsCommand (name.now ∷ first.now ∷ []) form → option_map form_of result ≡ Some form
+    }
+{
+    match name {
+        "step" => Some(Command::Step { job: first }),
+        "run" => Some(Command::Run { job: first }),
+        "harts" => Some(Command::Harts { job: first }),
+        _ => None,
+    }
+}
+
+// The forms of three words.
+fn three_words<'a>(name: &str, first: &'a str, second: &'a str) -> Option<Command<'a>>
+    ensures found { IfSome result (λ c. IsCommand (name.now ∷ first.now ∷ second.now ∷ []) (form_of c)) }
+    ensures only {
+        (form : Form) → IsCommand (name.now ∷ first.now ∷ second.now ∷ []) form → option_map form_of result ≡ Some form
+    }
+{
+    match name {
+        "raw" => {
+            let count = number(second, 1, 1_000_000)?;
+            Some(Command::Raw { image: first, count })
+        }
+        "judge" => Some(Command::Judge { job: first, waveform: second }),
+        "gen" => {
+            let seed = number(first, 0, u32::MAX)?;
+            let count = number(second, 1, 20_000)?;
+            Some(Command::Gen { seed, count })
+        }
+        "replay" => Some(Command::Replay { job: first, waveform: second }),
+        _ => None,
+    }
+}
+
+// The number that a word writes, where it is from `low` to `high`.
+fn number(word: &str, low: u32, high: u32) -> Option<u32>
+    ensures found { IfSome result (λ n. IsWithin low high n × (word.now ≡ decimal n)) }
+    ensures only { (n : ℕ) → IsWithin low high n → word.now ≡ decimal n → result ≡ Some n }
+{
+    let n = unsigned(word)?;
+    if low <= n && n <= high { Some(n) } else { None }
+}
+
+// The number that a word writes in decimal digits, without sign or leading zeros.
+fn unsigned(word: &str) -> Option<u32>
+    ensures found { IfSome result (λ n. word.now ≡ decimal n) }
+    ensures only { (n : ℕ) → n < 2 ^ 32 → word.now ≡ decimal n → result ≡ Some n }
+{
+    if has_plain_start(word) { word.parse().ok() } else { None }
+}
+
+// Whether no plus sign stands before the text, and no zero before further digits.
+fn has_plain_start(word: &str) -> bool
+    ensures { IsTrue result ↔ HasPlainStart word.now }
+{
+    match word.as_bytes() {
+        [b'+', ..] => false,
+        [b'0', _, ..] => false,
+        _ => true,
+    }
+}
