@@ -1,9 +1,12 @@
 -- How far the in-order machine comes within a budget.
-use Rattle.std.proofs.Common.{◌≡◌, ◌+◌, ◌<◌, ◌≤◌, ℕ, suc, zero, true, cond, Option, Some, None, refl, sym, ap, ◌∙◌, ◌⊎◌, inl, inr, ⊎_elim, arith, add-one}
-use Rattle.std.specs.Option.{option_and_then, is_some}
+use Rattle.std.proofs.Common.{◌≡◌, ◌+◌, ◌<◌, ◌≤◌, ◌==◌, ℕ, suc, zero, cond, Option, Some, None, refl, sym, ap, ◌∙◌, ⊎_elim, arith, add-one}
+use Rattle.std.specs.Option.{option_and_then, is_some, unwrap_or}
 use Rattle.std.proofs.lemmas.Bool.{cases_lt}
-use Rattle.inorder_machine.specs.Machine.{State}
-use Rattle.inorder_machine.specs.After.{next_state, after, retired_within}
+use Rattle.std.proofs.lemmas.Bool.Decides.{nat_tests}
+use Rattle.inorder_machine.specs.declared.stop.StopCause.{StopCause}
+use Rattle.inorder_machine.specs.declared.machine.Stepped.TheVariants.{Unbuilt}
+use Rattle.inorder_machine.specs.Machine.{State, outcome_of}
+use Rattle.inorder_machine.specs.After.{next_by, next_state, after, retired_within, last_within, stop_of, stop_within, ComesToUnbuilt}
 
 -- one retirement more
 pub after-more : (n : ℕ) (s t : State) → after n s ≡ Some t → after (n + 1) s ≡ next_state t
@@ -16,8 +19,8 @@ after-past (suc m) n s t e stop h =
     ⊎_elim
     (λ (below : n < m). ap (option_and_then next_state) (after-past m n s t e stop below))
     (λ (at : m ≤ n).
-      let same : m ≡ n = omega arith in
-      ap (λ k. option_and_then next_state (after k s)) same ∙ ap (option_and_then next_state) e ∙ stop)
+    let same : m ≡ n = omega arith in
+    ap (λ k. option_and_then next_state (after k s)) same ∙ ap (option_and_then next_state) e ∙ stop)
     (cases_lt n m)
 
 -- no stop within the budget
@@ -31,9 +34,41 @@ retired_within-stopped zero n s t e stop h = omega arith
 retired_within-stopped (suc budget) n s t e stop h =
     ⊎_elim
     (λ (below : n < suc budget).
-      ap (λ o. cond (is_some o) (suc budget) (retired_within budget s)) (after-past (suc budget) n s t e stop below)
-      ∙ retired_within-stopped budget n s t e stop (omega arith))
+    ap (λ o. cond (is_some o) (suc budget) (retired_within budget s)) (after-past (suc budget) n s t e stop below)
+    ∙ retired_within-stopped budget n s t e stop (omega arith))
     (λ (at : suc budget ≤ n).
-      let same : suc budget ≡ n = omega arith in
-      ap (λ k. retired_within k s) same ∙ retired_within-full n s t e)
+    let same : suc budget ≡ n = omega arith in
+    ap (λ k. retired_within k s) same ∙ retired_within-full n s t e)
     (cases_lt n (suc budget))
+
+-- where and how a run within a budget ends
+pub record Ends (budget n : ℕ) (s t : State) (stop : Option StopCause) : Type 0 where
+  pub retired : n ≡ retired_within budget s
+  pub last : t ≡ last_within budget s
+  pub stop_is : stop ≡ stop_within budget s
+
+ends : (budget n : ℕ) (s t : State) (stop : Option StopCause) → after n s ≡ Some t → n ≡ retired_within budget s → cond (n == budget) None (stop_of (outcome_of t)) ≡ stop → Ends budget n s t stop
+ends budget n s t stop e same how =
+    let last : t ≡ last_within budget s = sym (ap (λ k. unwrap_or (after k s) s) (sym same) ∙ ap (λ o. unwrap_or o s) e) in
+    record {
+      retired = same;
+      last = last;
+      stop_is = sym how ∙ ap (λ k. cond (k == budget) None (stop_of (outcome_of t))) same ∙ ap (λ u. cond (retired_within budget s == budget) None (stop_of (outcome_of u))) last;
+    }
+
+-- by its budget
+pub ends-full : (n : ℕ) (s t : State) → after n s ≡ Some t → Ends n n s t None
+ends-full n s t e = ends n n s t None e (sym (retired_within-full n s t e)) (grind (arith, nat_tests))
+
+-- by an instruction that doesn't retire
+pub ends-early : (budget n : ℕ) (s t : State) → after n s ≡ Some t → next_state t ≡ None → n < budget → Ends budget n s t (stop_of (outcome_of t))
+ends-early budget n s t e stop h = ends budget n s t (stop_of (outcome_of t)) e (sym (retired_within-stopped budget n s t e stop (omega arith))) (grind (arith, nat_tests))
+
+-- where a run comes to an instruction that isn't built yet, it ends there
+pub unbuilt-last : (budget n : ℕ) (s t : State) → after n s ≡ Some t → n ≡ retired_within budget s → ComesToUnbuilt budget s → (n < budget) × (outcome_of t ≡ Unbuilt)
+unbuilt-last budget n s t e same u =
+    let there : u.retired ≡ n =
+    sym (retired_within-stopped budget u.retired s u.state u.reached (ap (next_by u.state) u.unbuilt) (omega (arith, u.within))) ∙ sym same in
+    let state : Some u.state ≡ Some t = sym u.reached ∙ ap (λ k. after k s) there ∙ e in
+    let same_state : u.state ≡ t = cc in
+    (omega (arith, u.within, there), ap outcome_of (sym same_state) ∙ u.unbuilt)

@@ -1,5 +1,5 @@
 -- The in-order machine (RISC-V Unprivileged ISA, chapter 2): what one instruction does.
-use Rattle.std.specs.Prelude.{◌≡◌, ◌<◌, ◌≢◌, ◌+◌, ℕ, List, Option, Some, None, slice_index, slice_set}
+use Rattle.std.specs.Prelude.{◌<◌, ◌+◌, ℕ, List, Option, Some, None, slice_index, slice_set}
 use Rattle.rv32_table.specs.declared.instr.Instr.{Instr}
 use Rattle.rv32_table.specs.Word.{wrapped}
 use Rattle.rv32_table.specs.Table.{Meaning, Computes, Stops, line}

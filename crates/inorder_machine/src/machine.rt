@@ -1,7 +1,7 @@
-ghost use Rattle.std.specs.Prelude.{◌≡◌, ◌<◌, ◌==◌, ℕ, Option, Some, None, replicate, slice_index, if◌then◌else◌};
+ghost use Rattle.std.specs.Prelude.{◌≡◌, ◌<◌, ◌↔◌, ℕ, Option, Some, None, replicate, slice_index, if◌then◌else◌};
 ghost use Rattle.inorder_machine.specs.Machine.{State, outcome_of, state_after, computed, taken, write_to, IsWrite, IfRetires};
 ghost use Rattle.rv32_table.specs.Instr.{kind_of, NamesRegisters};
-ghost use Rattle.inorder_machine.specs.After.{after, retired_within, stop_of};
+ghost use Rattle.inorder_machine.specs.After.{after, retired_within, last_within, stop_within, ComesToUnbuilt};
 
 use crate::line::{Retire, Write};
 use crate::stop::StopCause;
@@ -72,8 +72,12 @@ impl Machine {
     /// Steps until `n` instructions retired, or one doesn't.
     pub fn advance(&mut self, n: u64) -> Advanced
         ensures retired { result.retired ≡ retired_within n self.old }
-        ensures state { after result.retired self.old ≡ Some self.new }
-        ensures stop { result.stop ≡ (if result.retired == n then None else stop_of (outcome_of self.new)) }
+        ensures reached { after result.retired self.old ≡ Some self.new }
+        ensures last { self.new ≡ last_within n self.old }
+        ensures stop { result.stop ≡ stop_within n self.old }
+
+        // It ends early without a stop where it comes to an instruction that isn't built yet.
+        ensures unbuilt { ((result.retired < n) × (result.stop ≡ None)) ↔ ComesToUnbuilt n self.old }
     {
         for retired in 0..n {
             match self.step() {
