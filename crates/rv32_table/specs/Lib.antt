@@ -1,0 +1,4 @@
+pub mod Word
+pub mod Table
+pub mod Instr
+pub mod Fields

@@ -1,0 +1,74 @@
+-- What the table says of a word, and of a decoded instruction.
+use Rattle.std.specs.Prelude.{◌==◌, ◌<◌, ℕ, Bool, cond, Option, Some, None, bit_and, find}
+use Rattle.std.specs.Option.{option_map}
+use Rattle.rv32_table.specs.declared.rows.Row.{Row}
+use Rattle.rv32_table.specs.declared.instr.Instr.{Instr}
+use Rattle.rv32_table.specs.declared.instr.Kind.{Kind}
+use Rattle.rv32_table.specs.declared.instr.Kind.TheVariants.{Alu, Stop}
+use Rattle.rv32_table.specs.Word.{bits, sign_extended}
+use Rattle.rv32_table.specs.Table.{Format, NoImmediate, IType, Reads, ReadsNone, ReadsRs1, ReadsBoth, Operands, Meaning, Computes, Stops, Line, line, rows}
+
+-- the bits of a word under the mask of a line are its match
+abbrev pub matches : ℕ → Line → Bool
+matches word l = bit_and word l.mask == l.matched
+
+-- the row of a word
+abbrev pub row_of : ℕ → Option Row
+row_of word = find (λ r. matches word (line r)) rows
+
+-- the immediate of a word, extended by its sign (section 2.3)
+abbrev pub immediate_of : Format → ℕ → ℕ
+immediate_of NoImmediate word = 0
+immediate_of IType word = sign_extended 12 (bits word 31 20)
+
+-- a word, read as an instruction of a row
+abbrev pub instr_of : ℕ → Row → Instr
+instr_of word row = record {
+  row = row;
+  rd = bits word 11 7;
+  rs1 = bits word 19 15;
+  rs2 = bits word 24 20;
+  imm = immediate_of (line row).format word;
+}
+
+-- the instruction that a word is
+abbrev pub decoded : ℕ → Option Instr
+decoded word = option_map (instr_of word) (row_of word)
+
+-- the fields for registers are numbers of registers, x0 to x31
+pub record NamesRegisters (i : Instr) : Type 0 where
+  pub rd : i.rd < 32
+  pub rs1 : i.rs1 < 32
+  pub rs2 : i.rs2 < 32
+
+abbrev pub kind_by : Meaning → Kind
+kind_by (Computes value) = Alu
+kind_by Stops = Stop
+
+abbrev pub kind_of : Instr → Kind
+kind_of i = kind_by (line i.row).meaning
+
+abbrev pub sources_by : Reads → ℕ → ℕ → Option ℕ × Option ℕ
+sources_by ReadsNone rs1 rs2 = (None, None)
+sources_by ReadsRs1 rs1 rs2 = (Some rs1, None)
+sources_by ReadsBoth rs1 rs2 = (Some rs1, Some rs2)
+
+-- the registers that an instruction reads
+abbrev pub sources_of : Instr → Option ℕ × Option ℕ
+sources_of i = sources_by (line i.row).reads i.rs1 i.rs2
+
+-- the register that it writes, which is never x0
+abbrev pub target_of : Instr → Option ℕ
+target_of i = cond (line i.row).writes (cond (i.rd == 0) None (Some i.rd)) None
+
+-- what it computes from, with the values of rs1 and rs2 and its address
+abbrev pub operands_of : Instr → ℕ → ℕ → ℕ → Operands
+operands_of i a b pc = record { a = a; b = b; pc = pc; imm = i.imm; shamt = i.rs2 }
+
+abbrev pub value_by : Meaning → Operands → ℕ
+value_by (Computes value) x = value x
+value_by Stops x = 0
+
+-- the value of rd, of an instruction that computes one
+abbrev pub value_of : Instr → ℕ → ℕ → ℕ → ℕ
+value_of i a b pc = value_by (line i.row).meaning (operands_of i a b pc)

@@ -1,0 +1,65 @@
+//! A decoded instruction, and what the table says of it.
+ghost use Rattle.std.specs.Prelude.{◌≡◌};
+ghost use Rattle.rv32_table.specs.Instr.{kind_of, sources_of, target_of};
+
+use crate::rows::Row;
+
+/// What the machine does with an instruction.
+#[derive(Clone, Copy, Debug, PartialEq, Eq)]
+pub enum Kind {
+    /// Computes the value of rd (RISC-V Unprivileged ISA, section 2.4 and chapter 7).
+    Alu,
+    /// Reads the memory (section 2.6).
+    Load,
+    /// Writes the memory (section 2.6).
+    Store,
+    /// Jumps or branches (section 2.5).
+    Control,
+    /// Orders memory accesses (section 2.7), which changes nothing on one hart.
+    Fence,
+    /// Calls the environment or the debugger (section 2.8).
+    Stop,
+}
+
+/// A decoded instruction: its row, the register numbers in its fields, and its immediate, extended by
+/// its sign to 32 bits. Fields that the row doesn't use are decoded all the same; `imm` is 0 where
+/// the row has no immediate (RISC-V Unprivileged ISA, sections 2.2 and 2.3).
+#[derive(Clone, Copy, Debug, PartialEq, Eq)]
+pub struct Instr {
+    pub row: Row,
+    pub rd: u8,
+    pub rs1: u8,
+    pub rs2: u8,
+    pub imm: u32,
+}
+
+impl Instr {
+    pub fn kind(&self) -> Kind
+        ensures { result ≡ kind_of self.now }
+    {
+        match self.row {
+            Row::Addi => Kind::Alu,
+            Row::Ecall => Kind::Stop,
+        }
+    }
+
+    /// The registers that are read, as rs1 and as rs2.
+    pub fn sources(&self) -> (Option<u8>, Option<u8>)
+        ensures { result ≡ sources_of self.now }
+    {
+        match self.row {
+            Row::Addi => (Some(self.rs1), None),
+            Row::Ecall => (None, None),
+        }
+    }
+
+    /// The register that is written: none where the row writes none, and none for x0.
+    pub fn target(&self) -> Option<u8>
+        ensures { result ≡ target_of self.now }
+    {
+        match self.row {
+            Row::Ecall => None,
+            Row::Addi => if self.rd == 0 { None } else { Some(self.rd) },
+        }
+    }
+}
