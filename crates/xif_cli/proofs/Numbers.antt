@@ -27,5 +27,6 @@ decimal_is_plain zero h = rw (decimal_digit 0 (omega arith)) (record { no_plus =
 decimal_is_plain (suc n) h =
     let first : 48 < get_or (decimal (suc n)) 0 0 = first_decimal (suc n) (omega arith) (omega arith) in
     record { no_plus = λ e. absurd (omega (arith, e, first)); no_more = λ e. absurd (omega (arith, e, first)) }
+
 pub written_is_plain : (text : List ℕ) (n : ℕ) → n < 2 ^ 32 → text ≡ decimal n → HasPlainStart text
 written_is_plain text n small e = rw e (decimal_is_plain n small)

@@ -11,7 +11,3 @@ unfolding padded_integral char_count
 zero_padded figures =
     let width : 8 - length figures - 0 - 0 ≡ 8 - length figures = omega arith in
     rw width (ap (λ t. replicate (8 - length figures) 48 ++ t) (append-nil figures))
-
--- the lines of a list, from its element at i on
-pub lines_from : (f : ℕ × ℕ → List ℕ) (xs : List ℕ) (i n : ℕ) → i < length xs → flat_map f (enumerate_from n (drop i xs)) ≡ f (n, get_or xs i 0) ++ flat_map f (enumerate_from (n + 1) (drop (i + 1) xs))
-lines_from f xs i n h = rw (add-one i) (rw (drop-cons xs i 0 h) (λ k. f (n, get_or xs i 0) ++ flat_map f (enumerate_from (n + 1) (drop (suc i) xs))))
