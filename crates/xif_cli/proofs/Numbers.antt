@@ -1,5 +1,5 @@
 -- A number in decimal digits, and what `parse` says of it.
-use Rattle.std.proofs.Common.{ℕ, List, [], ◌∷◌, ◌≡◌, ◌<◌, ◌^◌, ◌∙◌, suc, zero, refl, sym, ap, arith, get_or, Result, Ok, Err, IfSome, Some}
+use Rattle.std.proofs.Common.{ℕ, List, ◌≡◌, ◌<◌, ◌^◌, ◌∙◌, suc, zero, refl, sym, ap, arith, get_or, Result, Ok, Err, IfSome, Some}
 use Rattle.std.specs.Fmt.{decimal}
 use Rattle.std.specs.Result.{result_ok}
 use Rattle.std.specs.Str.Parse.{AllDigits, digits_value, ParsesUnsigned}

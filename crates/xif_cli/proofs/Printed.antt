@@ -1,9 +1,7 @@
 -- Printed words, and lines that are printed in turn.
-use Rattle.std.proofs.Common.{ℕ, List, [], ◌∷◌, ◌++◌, ◌≡◌, ◌∙◌, ◌-◌, ◌+◌, ◌^◌, ◌<◌, false, suc, sym, ap, arith, get_or, length, drop, replicate, append_assoc, add-one}
+use Rattle.std.proofs.Common.{ℕ, List, [], ◌++◌, ◌≡◌, ◌-◌, ◌^◌, false, ap, arith, length, replicate}
 use Rattle.std.specs.Fmt.{char_count, padded_integral, format_spec}
-use Rattle.std.specs.List.{enumerate_from, flat_map}
 use Rattle.std.proofs.lemmas.List.{append-nil}
-use Rattle.std.proofs.Math.Seq.{drop-cons}
 
 -- what a hole of eight figures, filled with zeros, writes
 pub zero_padded : (figures : List ℕ) → padded_integral (format_spec 32 0 4 8 (2 ^ 64 - 1)) false [] figures ≡ replicate (8 - length figures) 48 ++ figures

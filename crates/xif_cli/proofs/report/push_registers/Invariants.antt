@@ -1,7 +1,7 @@
 use Rattle.std.proofs.Common.{◌≡◌, ◌++◌, ◌+◌, drop}
 use Rattle.std.specs.List.{enumerate_from, flat_map}
 use Rattle.std.specs.String.{string_bytes}
-use Rattle.xif_cli.specs.Report.{register_line, register_lines}
+use Rattle.xif_cli.specs.Report.{register_line}
 use Rattle.xif_cli.proofs.report.push_registers.Given as goal
 
 -- what is written, and the lines of the registers that are left, are the whole
