@@ -1,4 +1,4 @@
--- Printed words, and lines that are printed in turn.
+-- What the holes of a format write.
 use Rattle.std.proofs.Common.{ℕ, List, [], ◌++◌, ◌≡◌, ◌-◌, ◌^◌, false, ap, arith, length, replicate}
 use Rattle.std.specs.Fmt.{char_count, padded_integral, format_spec}
 use Rattle.std.proofs.lemmas.List.{append-nil}

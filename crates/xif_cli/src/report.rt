@@ -1,8 +1,7 @@
 //! What the in-order commands print.
-ghost use Rattle.std.specs.Prelude.{◌≡◌, ◌<◌, ◌^◌, ◌++◌, length, OnOk, IfOk, Some};
+ghost use Rattle.std.specs.Prelude.{◌≡◌, ◌++◌, OnOk, IfOk, Some};
 ghost use Rattle.std.specs.String.{string_bytes};
 ghost use Rattle.xif_cli.specs.Report.{hex_word, end_word, outcome_text, register_line, register_lines, report_of};
-ghost use lib.Chars.{codes};
 
 use inorder_machine::StopCause;
 use std::alloc::{AllocError, Global};
