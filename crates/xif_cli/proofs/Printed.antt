@@ -1,9 +1,7 @@
--- Printed words, and lines that are printed in turn.
-use Rattle.std.proofs.Common.{ℕ, List, [], ◌∷◌, ◌++◌, ◌≡◌, ◌∙◌, ◌-◌, ◌+◌, ◌^◌, ◌<◌, false, suc, sym, ap, arith, get_or, length, drop, replicate, append_assoc, add-one}
+-- What the holes of a format write.
+use Rattle.std.proofs.Common.{ℕ, List, [], ◌++◌, ◌≡◌, ◌-◌, ◌^◌, false, ap, arith, length, replicate}
 use Rattle.std.specs.Fmt.{char_count, padded_integral, format_spec}
-use Rattle.std.specs.List.{enumerate_from, flat_map}
 use Rattle.std.proofs.lemmas.List.{append-nil}
-use Rattle.std.proofs.Math.Seq.{drop-cons}
 
 -- what a hole of eight figures, filled with zeros, writes
 pub zero_padded : (figures : List ℕ) → padded_integral (format_spec 32 0 4 8 (2 ^ 64 - 1)) false [] figures ≡ replicate (8 - length figures) 48 ++ figures
@@ -11,7 +9,3 @@ unfolding padded_integral char_count
 zero_padded figures =
     let width : 8 - length figures - 0 - 0 ≡ 8 - length figures = omega arith in
     rw width (ap (λ t. replicate (8 - length figures) 48 ++ t) (append-nil figures))
-
--- the lines of a list, from its element at i on
-pub lines_from : (f : ℕ × ℕ → List ℕ) (xs : List ℕ) (i n : ℕ) → i < length xs → flat_map f (enumerate_from n (drop i xs)) ≡ f (n, get_or xs i 0) ++ flat_map f (enumerate_from (n + 1) (drop (i + 1) xs))
-lines_from f xs i n h = rw (add-one i) (rw (drop-cons xs i 0 h) (λ k. f (n, get_or xs i 0) ++ flat_map f (enumerate_from (n + 1) (drop (suc i) xs))))

@@ -40,10 +40,10 @@ IsInRange (Gen seed count) = IsWithin 0 4294967295 seed × IsWithin 1 20000 coun
 IsInRange (Harts job) = ⊤
 IsInRange (Replay job waveform) = ⊤
 
--- no plus sign stands before the text, and no zero before further digits
+-- the text begins with no `+` (43), and with no `0` (48) before more
 pub record HasPlainStart (text : List ℕ) : Type 0 where
   pub no_plus : slice_index text 0 ≢ 43
-  pub no_more : slice_index text 0 ≡ 48 → length text ≡ 1
+  pub zero_alone : slice_index text 0 ≡ 48 → length text ≡ 1
 
 -- the words after the program's name are those of this form
 pub record IsCommand (words : List (List ℕ)) (form : Form) : Type 0 where

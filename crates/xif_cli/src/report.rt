@@ -1,8 +1,7 @@
 //! What the in-order commands print.
-ghost use Rattle.std.specs.Prelude.{◌≡◌, ◌<◌, ◌^◌, ◌++◌, length, OnOk, IfOk, Some};
+ghost use Rattle.std.specs.Prelude.{◌≡◌, ◌++◌, OnOk, IfOk, Some};
 ghost use Rattle.std.specs.String.{string_bytes};
 ghost use Rattle.xif_cli.specs.Report.{hex_word, end_word, outcome_text, register_line, register_lines, report_of};
-ghost use lib.Chars.{codes};
 
 use inorder_machine::StopCause;
 use std::alloc::{AllocError, Global};
@@ -64,7 +63,7 @@ fn push_registers(text: &mut String, registers: &[u32]) -> Result<(), AllocError
 
 // Appends the line of one register.
 fn push_register(text: &mut String, number: usize, value: u32) -> Result<(), AllocError>
-    ensures { OnOk result (string_bytes text.new ≡ string_bytes text.old ++ register_line (number, value)) }
+    ensures { OnOk result (string_bytes text.new ≡ string_bytes text.old ++ register_line number value) }
 {
     if value == 0 {
         return Ok(());
@@ -81,5 +80,49 @@ impl fmt::Display for HexWord {
 
     fn fmt<W: fmt::Write>(&self, f: &mut fmt::Formatter<W>) -> fmt::Result {
         write!(f, "0x{:08x}", self.0)
+    }
+}
+
+#[cfg(test)]
+mod tests {
+    use super::*;
+    use std::test::Fail;
+
+    #[test]
+    fn prints_the_end_and_the_registers(rt: HostRuntime) -> Result<(), Fail> {
+        let none = [0; 32];
+        let mut one = none;
+        one[1] = 5;
+        let mut ends = none;
+        ends[0] = 7;
+        ends[10] = 0x1000_0000;
+        ends[31] = 0xdead_beef;
+        for (stop, pc, retired, registers, wanted) in [
+            (
+                Some(StopCause::Ecall),
+                4,
+                1,
+                &one,
+                "end=ecall pc=0x00000004 retired=1\nx1=0x00000005\n",
+            ),
+            (
+                Some(StopCause::FetchOutside),
+                0,
+                0,
+                &none,
+                "end=fetch-outside pc=0x00000000 retired=0\n",
+            ),
+            (
+                None,
+                0xffff_fffc,
+                u64::MAX,
+                &ends,
+                "end=budget pc=0xfffffffc retired=18446744073709551615\nx10=0x10000000\nx31=0xdeadbeef\n",
+            ),
+        ] {
+            let text = report(rt.alloc(), stop, pc, retired, registers)?;
+            assert_eq!(rt; text.as_str(), wanted);
+        }
+        Ok(())
     }
 }

@@ -8,42 +8,38 @@ ghost use Rattle.xif_cli.specs.Words.{Form, IsWithin, HasPlainStart, IsCommand, 
 /// What the words after the program's name ask for.
 #[derive(Clone, Copy, Debug, PartialEq, Eq)]
 pub(crate) enum Command<'a> {
-    /// `raw IMAGE COUNT`: run a bare image, for at most so many retirements.
+    /// `raw IMAGE COUNT`: run the image's bytes alone, for at most COUNT retirements.
     Raw { image: &'a str, count: u32 },
-    /// `step JOB`: run a job on the in-order machine.
+    /// `step JOB`: run the job on the in-order machine.
     Step { job: &'a str },
-    /// `run JOB`: simulate a job.
+    /// `run JOB`: simulate the job.
     Run { job: &'a str },
-    /// `judge JOB WAVEFORM`: judge a waveform.
+    /// `judge JOB WAVEFORM`: judge the waveform.
     Judge { job: &'a str, waveform: &'a str },
-    /// `gen SEED COUNT`: make a program of so many instructions, and simulate it.
+    /// `gen SEED COUNT`: make a program of COUNT instructions, and simulate it.
     Gen { seed: u32, count: u32 },
     /// `harts JOB`: simulate a job of several harts.
     Harts { job: &'a str },
-    /// `replay JOB WAVEFORM`: drive the coprocessor with what a waveform shows.
+    /// `replay JOB WAVEFORM`: drive the coprocessor as the waveform does.
     Replay { job: &'a str, waveform: &'a str },
 }
 
 /// What the words ask for; none where they are no form of the command line.
 pub(crate) fn parse_command(words: &[String]) -> Option<Command<'_>>
     ensures found { IfSome result (λ c. IsCommand (map string_bytes words.now) (form_of c)) }
-    ensures only {
-        (form : Form) → IsCommand (map string_bytes words.now) form → option_map form_of result ≡ Some form
-    }
+    ensures only { (form : Form) → IsCommand (map string_bytes words.now) form → option_map form_of result ≡ Some form }
 {
     match words {
-        [name, first] => two_words(name.as_str(), first.as_str()),
-        [name, first, second] => three_words(name.as_str(), first.as_str(), second.as_str()),
+        [name, first] => parse_two(name.as_str(), first.as_str()),
+        [name, first, second] => parse_three(name.as_str(), first.as_str(), second.as_str()),
         _ => None,
     }
 }
 
 // The forms of two words.
-fn two_words<'a>(name: &str, first: &'a str) -> Option<Command<'a>>
+fn parse_two<'a>(name: &str, first: &'a str) -> Option<Command<'a>>
     ensures found { IfSome result (λ c. IsCommand (name.now ∷ first.now ∷ []) (form_of c)) }
-    ensures only {
-        (form : Form) → IsCommand (name.now ∷ first.now ∷ []) form → option_map form_of result ≡ Some form
-    }
+    ensures only { (form : Form) → IsCommand (name.now ∷ first.now ∷ []) form → option_map form_of result ≡ Some form }
 {
     match name {
         "step" => Some(Command::Step { job: first }),
@@ -54,46 +50,58 @@ fn two_words<'a>(name: &str, first: &'a str) -> Option<Command<'a>>
 }
 
 // The forms of three words.
-fn three_words<'a>(name: &str, first: &'a str, second: &'a str) -> Option<Command<'a>>
+fn parse_three<'a>(name: &str, first: &'a str, second: &'a str) -> Option<Command<'a>>
     ensures found { IfSome result (λ c. IsCommand (name.now ∷ first.now ∷ second.now ∷ []) (form_of c)) }
-    ensures only {
-        (form : Form) → IsCommand (name.now ∷ first.now ∷ second.now ∷ []) form → option_map form_of result ≡ Some form
-    }
+    ensures only { (form : Form) → IsCommand (name.now ∷ first.now ∷ second.now ∷ []) form → option_map form_of result ≡ Some form }
 {
     match name {
         "raw" => {
-            let count = number(second, 1, 1_000_000)?;
-            Some(Command::Raw { image: first, count })
+            let count = number_within(second, 1, 1_000_000)?;
+            Some(Command::Raw {
+                image: first,
+                count,
+            })
         }
-        "judge" => Some(Command::Judge { job: first, waveform: second }),
+        "judge" => Some(Command::Judge {
+            job: first,
+            waveform: second,
+        }),
         "gen" => {
-            let seed = number(first, 0, u32::MAX)?;
-            let count = number(second, 1, 20_000)?;
+            let seed = number_within(first, 0, u32::MAX)?;
+            let count = number_within(second, 1, 20_000)?;
             Some(Command::Gen { seed, count })
         }
-        "replay" => Some(Command::Replay { job: first, waveform: second }),
+        "replay" => Some(Command::Replay {
+            job: first,
+            waveform: second,
+        }),
         _ => None,
     }
 }
 
-// The number that a word writes, where it is from `low` to `high`.
-fn number(word: &str, low: u32, high: u32) -> Option<u32>
-    ensures found { IfSome result (λ n. IsWithin low high n × (word.now ≡ decimal n)) }
+// The number that the word writes, where it is from `low` to `high`.
+fn number_within(word: &str, low: u32, high: u32) -> Option<u32>
+    ensures range { IfSome result (λ n. IsWithin low high n) }
+    ensures found { IfSome result (λ n. word.now ≡ decimal n) }
     ensures only { (n : ℕ) → IsWithin low high n → word.now ≡ decimal n → result ≡ Some n }
 {
-    let n = unsigned(word)?;
+    let n = parse_number(word)?;
     if low <= n && n <= high { Some(n) } else { None }
 }
 
-// The number that a word writes in decimal digits, without sign or leading zeros.
-fn unsigned(word: &str) -> Option<u32>
+// The number that the word writes in decimal digits, without sign or leading zeros.
+fn parse_number(word: &str) -> Option<u32>
     ensures found { IfSome result (λ n. word.now ≡ decimal n) }
     ensures only { (n : ℕ) → n < 2 ^ 32 → word.now ≡ decimal n → result ≡ Some n }
 {
-    if has_plain_start(word) { word.parse().ok() } else { None }
+    if has_plain_start(word) {
+        word.parse().ok()
+    } else {
+        None
+    }
 }
 
-// Whether no plus sign stands before the text, and no zero before further digits.
+// Whether the word begins with no plus sign, which `parse` takes, and with no zero before more.
 fn has_plain_start(word: &str) -> bool
     ensures { IsTrue result ↔ HasPlainStart word.now }
 {
@@ -101,5 +109,65 @@ fn has_plain_start(word: &str) -> bool
         [b'+', ..] => false,
         [b'0', _, ..] => false,
         _ => true,
+    }
+}
+
+#[cfg(test)]
+mod tests {
+    use super::*;
+    use std::alloc::{AllocError, Global};
+    use std::test::Fail;
+
+    fn split(alloc: Global, line: &str) -> Result<Vec<String>, AllocError> {
+        let mut words = Vec::new(alloc);
+        for word in line.split('|') {
+            words.push(String::from_str(alloc, word)?)?;
+        }
+        Ok(words)
+    }
+
+    #[test]
+    fn reads_each_form_at_its_limits(rt: HostRuntime) -> Result<(), Fail> {
+        let (image, job, waveform) = ("a.bin", "a.toml", "b.vcd");
+        let most = 1_000_000;
+        let (seed, count) = (u32::MAX, 20_000);
+        for (line, wanted) in [
+            ("raw|a.bin|1", Command::Raw { image, count: 1 }),
+            ("raw|a.bin|1000000", Command::Raw { image, count: most }),
+            ("step|a.toml", Command::Step { job }),
+            ("run|a.toml", Command::Run { job }),
+            ("run|step", Command::Run { job: "step" }),
+            ("judge|a.toml|b.vcd", Command::Judge { job, waveform }),
+            ("gen|0|1", Command::Gen { seed: 0, count: 1 }),
+            ("gen|4294967295|20000", Command::Gen { seed, count }),
+            ("harts|a.toml", Command::Harts { job }),
+            ("replay|a.toml|b.vcd", Command::Replay { job, waveform }),
+        ] {
+            let words = split(rt.alloc(), line)?;
+            assert_eq!(rt; parse_command(&words), Some(wanted), "at {line}");
+        }
+        Ok(())
+    }
+
+    // Texts of words, a text a line, that are no form.
+    const COUNTS: &str =
+        "\nraw\nraw|a.bin\nraw|a.bin|5|5\nstep\nstep|a|b\nrun\nrun|a|b\njudge|a\njudge|a|b|c\n\
+        gen|1\ngen|1|1|1\nharts\nharts|a|b\nreplay|a\nreplay|a|b|c\n--help\nStep|a\nsteps|a\n step|a";
+
+    const NUMBERS: &str =
+        "raw|a.bin|0\nraw|a.bin|1000001\nraw|a.bin|010\nraw|a.bin|+5\nraw|a.bin|5 \nraw|a.bin| 5\n\
+        raw|a.bin|\nraw|a.bin|-0\nraw|a.bin|00\nraw|a.bin|٥\nraw|a.bin|0x5\nraw|a.bin|18446744073709551617\n\
+        gen|4294967296|1\ngen|0|0\ngen|0|20001\ngen|00|1\ngen|-0|1\ngen|+0|1\ngen|01|1\ngen||1\n\
+        gen|100000000000000000000000000000000000000000000000000005|1";
+
+    #[test]
+    fn refuses_other_words(rt: HostRuntime) -> Result<(), Fail> {
+        for lines in [COUNTS, NUMBERS] {
+            for line in lines.split('\n') {
+                let words = split(rt.alloc(), line)?;
+                assert_eq!(rt; parse_command(&words), None, "at {line}");
+            }
+        }
+        Ok(())
     }
 }

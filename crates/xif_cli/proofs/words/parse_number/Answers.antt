@@ -1,6 +1,6 @@
 use Rattle.std.proofs.Common.{arith, refl}
 use Rattle.xif_cli.proofs.Numbers.{parsed_is_written, written_is_parsed, written_is_plain}
-use Rattle.xif_cli.proofs.words.unsigned.Goals as goal
+use Rattle.xif_cli.proofs.words.parse_number.Goals as goal
 
 pub returns-then-has_plain_start-clause-found : goal.returns-then-has_plain_start-clause-found
 returns-then-has_plain_start-clause-found c =
