@@ -1,2 +1,5 @@
 pub mod Report
 pub mod Words
+pub mod Status
+pub mod Run
+pub mod Answers

@@ -4,5 +4,13 @@
 //! print. What each means stands in `specs/`.
 #![tactic(auto)]
 
+mod program;
+mod raw;
 mod report;
+mod run;
+mod status;
 mod words;
+
+pub use program::xif;
+pub use raw::RAW_LIMIT;
+pub use status::Status;
