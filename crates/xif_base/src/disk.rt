@@ -44,6 +44,9 @@ impl<R: Files + Drop> Shelf for DiskShelf<R> {
     ghost fetch_faults = { λ s. s };
 
     fn fetch(&mut self, name: &str, at: u64, buf: &mut [u8]) -> Result<usize, Failed> {
+        if buf.is_empty() {
+            return Ok(0);
+        }
         match read_at(&self.files, name, at, buf) {
             Ok(count) => Ok(count),
             Err(_) => {

@@ -8,6 +8,8 @@ mod memory;
 mod memory_out;
 mod outside;
 mod read;
+#[cfg(test)]
+mod tests;
 mod write;
 
 pub use disk::{DiskShelf, StdOut};

@@ -4,38 +4,6 @@ use Rattle.xif_base.specs.Files.{told, IsMissing, HasBytes, Copies}
 use Rattle.xif_base.proofs.Fronts.{IsFront, IsFront-append, IsFront-end}
 use Rattle.xif_base.proofs.read.read_all.Goals as goal
 
-pub returns-in-Err-clause-fault : goal.returns-in-Err-clause-fault
-returns-in-Err-clause-fault g c =
-    let before = c.loop-bytes.invariant in
-    λ _. elim c.in-Err.ensures.failed [
-      | inl rose ↦ inl (omega (arith, rose, before.count))
-      | inr gone ↦ let here : IsMissing (g.S.Shelf.files c.args.shelf.now) c.args.name.now = ap (λ files. told files c.args.name.now) (sym before.files) ∙ gone.0 in inr (here, gone.1 ∙ before.missing here)
-    ]
-
-pub returns-in-Err-clause-longer : goal.returns-in-Err-clause-longer
-returns-in-Err-clause-longer g c =
-    let before = c.loop-bytes.invariant in
-    λ bytes has longer. elim c.in-Err.ensures.failed [
-      | inl rose ↦ inr (inl (omega (arith, rose, before.count)))
-      | inr gone ↦ let here : IsMissing (g.S.Shelf.files c.args.shelf.now) c.args.name.now = ap (λ files. told files c.args.name.now) (sym before.files) ∙ gone.0 in cc (here, has)
-    ]
-
-pub returns-in-Err-clause-stays_faultless : goal.returns-in-Err-clause-stays_faultless
-returns-in-Err-clause-stays_faultless g c = λ none. c.fetch.ensures.stays_faultless (c.loop-bytes.invariant.faultless none)
-
-pub returns-in-Err-clause-no_fault : goal.returns-in-Err-clause-no_fault
-returns-in-Err-clause-no_fault g c = λ none. c.fetch.ensures.no_fault (c.loop-bytes.invariant.faultless none) ∙ c.loop-bytes.invariant.no_fault none
-
-pub returns-in-Err-clause-only_missing : goal.returns-in-Err-clause-only_missing
-returns-in-Err-clause-only_missing g c = λ none _.
-    ap (λ files. told files c.args.name.now) (sym c.loop-bytes.invariant.files) ∙ c.in-Err.ensures.only_missing (c.loop-bytes.invariant.faultless none)
-
-pub returns-in-Ok-eq0-clause-stays_faultless : goal.returns-in-Ok-eq0-clause-stays_faultless
-returns-in-Ok-eq0-clause-stays_faultless g c = λ none. c.fetch.ensures.stays_faultless (c.loop-bytes.invariant.faultless none)
-
-pub returns-in-Ok-eq0-clause-no_fault : goal.returns-in-Ok-eq0-clause-no_fault
-returns-in-Ok-eq0-clause-no_fault g c = λ none. c.fetch.ensures.no_fault (c.loop-bytes.invariant.faultless none) ∙ c.loop-bytes.invariant.no_fault none
-
 pub loop-bytes-preserved : goal.loop-bytes-preserved
 loop-bytes-preserved g c =
     let before = c.loop-bytes.invariant in
