@@ -1,7 +1,6 @@
-use Rattle.std.proofs.Common.{◌≡◌, ◌<◌, ◌≤◌, ℕ, List, length, inl, inr, arith, rules, sym, ap, ◌∙◌}
-use Rattle.xif_base.specs.Faults.{Rose}
-use Rattle.xif_base.specs.Files.{told, IsMissing, HasBytes, Copies}
-use Rattle.xif_base.proofs.Fronts.{IsFront, IsFront-append, IsFront-end}
+use Rattle.std.proofs.Common.{arith, ap, ◌∙◌}
+use Rattle.xif_base.specs.Files.{told, IsMissing, HasBytes}
+use Rattle.xif_base.proofs.Fronts.{IsFront-append}
 use Rattle.xif_base.proofs.read.read_all.Goals as goal
 
 pub loop-bytes-preserved : goal.loop-bytes-preserved
