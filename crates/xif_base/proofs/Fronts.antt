@@ -1,5 +1,5 @@
 -- Fronts of a list that grow by pieces.
-use Rattle.std.proofs.Common.{◌≡◌, ◌≤◌, ◌<◌, ◌+◌, ◌-◌, ℕ, List, ◌++◌, length, take, drop, Option, Some, None, arith, sym, ◌∙◌, ap, refl, length-append, append_assoc}
+use Rattle.std.proofs.Common.{◌≡◌, ◌≤◌, ◌<◌, ◌+◌, ◌-◌, ℕ, List, ◌++◌, length, take, drop, Option, Some, None, arith, sym, ◌∙◌, ap, refl, append_assoc}
 use Rattle.std.proofs.Math.Seq.{take-add}
 use Rattle.std.proofs.lemmas.Grind.{common_steps}
 use Rattle.xif_base.specs.Files.{Copies}
@@ -11,12 +11,16 @@ pub record IsFront (items bytes : List ℕ) : Type 0 where
   pub same : items ≡ take (length items) bytes
 
 -- a front grows by what was copied from behind it
-pub IsFront-append : (items bytes buf : List ℕ) (n : ℕ) → IsFront items bytes → Copies bytes (length items) n buf → n ≤ length buf → IsFront (items ++ take n buf) bytes
-IsFront-append items bytes buf n front copied in_buf =
+pub IsFront-append : (items bytes buf : List ℕ) (at n : ℕ) → at ≡ length items → IsFront items bytes → Copies bytes at n buf → n ≤ length buf → IsFront (items ++ take n buf) bytes
+IsFront-append items bytes buf at n behind front copied within =
     let len : length (items ++ take n buf) ≡ length items + n = grind (arith, common_steps) in
     record {
       short = omega (arith, len, copied.inside, front.short);
-      same = ap (λ xs. xs ++ take n buf) front.same ∙ ap (λ xs. take (length items) bytes ++ xs) copied.same ∙ sym (take-add (length items) n bytes) ∙ ap (λ k. take k bytes) (sym len);
+      same =
+          ap (λ xs. xs ++ take n buf) front.same
+          ∙ ap (λ xs. take (length items) bytes ++ xs) (copied.same ∙ ap (λ k. take n (drop k bytes)) behind)
+          ∙ sym (take-add (length items) n bytes)
+          ∙ ap (λ k. take k bytes) (sym len);
     }
 
 -- a front behind which nothing can be copied is the whole
@@ -30,6 +34,12 @@ pub grown-grown : (told : Option (List ℕ)) (xs ys : List ℕ) → grown (grown
 grown-grown None xs ys = refl
 grown-grown (Some bytes) xs ys = ap Some (append_assoc bytes xs ys)
 
--- told bytes that grew by a front, and then by what is behind it, grew by a longer front
+-- told bytes that grew by a front, and then by some of what is behind it, grew by a longer front
 pub grown-take : (told : Option (List ℕ)) (bytes : List ℕ) (n k : ℕ) → grown (grown told (take n bytes)) (take k (drop n bytes)) ≡ grown told (take (n + k) bytes)
 grown-take told bytes n k = grown-grown told (take n bytes) (take k (drop n bytes)) ∙ ap (grown told) (sym (take-add n k bytes))
+
+-- the same of the slice `bytes[n..]`
+pub grown-slice : (told : Option (List ℕ)) (bytes : List ℕ) (n k : ℕ) → grown (grown told (take n bytes)) (take k (take (length bytes - n) (drop n bytes))) ≡ grown told (take (n + k) bytes)
+grown-slice told bytes n k =
+    let all : take (length bytes - n) (drop n bytes) ≡ drop n bytes = grind (arith, common_steps) in
+    ap (λ rest. grown (grown told (take n bytes)) (take k rest)) all ∙ grown-take told bytes n k

@@ -1,6 +1,8 @@
-// The disk and the standard output. What a real file holds, and what becomes of bytes that were written, is trusted to the system.
-ghost use Rattle.std.specs.Prelude.{◌≡◌};
-ghost use Rattle.std.specs.Io.{ReadsAtMost};
+// The disk and the standard output. What a real file holds, and what becomes of bytes that were
+// written, is trusted to the system.
+ghost use Rattle.std.specs.Prelude.{◌≡◌, ◌≢◌, ◌≤◌, ◌<◌, length, IfOk, MatchResult};
+ghost use Rattle.std.specs.Io.{ReadsAtMost, WritesAtMost};
+ghost use Rattle.xif_base.specs.Faults.{raised};
 
 use crate::count::FaultCount;
 use crate::{Failed, Out, Shelf, WriteFail};
@@ -26,6 +28,7 @@ impl<R> Model for DiskShelf<R> {
 }
 
 impl<R: Files + Drop> DiskShelf<R> {
+    /// A shelf over the files that `rt` opens.
     pub fn new(rt: R) -> DiskShelf<R>
         ensures no_fault { result ≡ 0 }
     {
@@ -43,7 +46,18 @@ impl<R: Files + Drop> Shelf for DiskShelf<R> {
 
     ghost fetch_faults = { λ s. s };
 
-    fn fetch(&mut self, name: &str, at: u64, buf: &mut [u8]) -> Result<usize, Failed> {
+    fn fetch(&mut self, name: &str, at: u64, buf: &mut [u8]) -> Result<usize, Failed>
+        ensures bound { ReadsAtMost result buf.new }
+
+        // The count rises at each failure, a missing file too, and only there.
+        ensures counted { MatchResult result
+            (λ _. self.new ≡ self.old)
+            (λ _. self.new ≡ raised self.old) }
+        ensures count { self.old ≤ self.new }
+    {
+        if buf.is_empty() {
+            return Ok(0);
+        }
         match read_at(&self.files, name, at, buf) {
             Ok(count) => Ok(count),
             Err(_) => {
@@ -54,7 +68,7 @@ impl<R: Files + Drop> Shelf for DiskShelf<R> {
     }
 }
 
-/// Reads once from a file, which is opened anew.
+/// Reads once from a file, which is opened anew for it.
 fn read_at<R: Files>(files: &R, name: &str, at: u64, buf: &mut [u8]) -> io::Result<usize>
     ensures bound { ReadsAtMost result buf.new }
 {
@@ -80,6 +94,7 @@ impl<R> Model for StdOut<R> {
 }
 
 impl<R: Print + Drop> StdOut<R> {
+    /// An output that `rt` prints.
     pub fn new(rt: R) -> StdOut<R>
         ensures no_fault { result ≡ 0 }
     {
@@ -97,7 +112,17 @@ impl<R: Print + Drop> Out for StdOut<R> {
 
     ghost faults = { λ s. s };
 
-    fn put(&mut self, piece: &[u8]) -> Result<usize, WriteFail> {
+    fn put(&mut self, piece: &[u8]) -> Result<usize, WriteFail>
+        ensures bound { WritesAtMost result piece.now }
+        ensures some { IfOk result (λ n. 0 < length piece.now → 0 < n) }
+
+        // The count rises at each failure, of which none is want of memory, and only there.
+        ensures counted { MatchResult result
+            (λ _. self.new ≡ self.old)
+            (λ _. self.new ≡ raised self.old) }
+        ensures count { self.old ≤ self.new }
+        ensures never_memory { result ≢ Err WriteFail.NoMemory }
+    {
         match self.rt.write_some(piece) {
             Ok(count) if count > 0 || piece.is_empty() => Ok(count),
             _ => {

@@ -1,4 +1,15 @@
-//! What lies outside: files by name, the output, and how often they failed.
+//! The outside: files by name, an output, and counts of how often they failed.
+//!
+//! The layers above may use the traits `Shelf` and `Out`, whose contracts say what each of their
+//! calls gives and when it fails, `read_all` for a whole file within a limit, and `put_all` for all
+//! bytes of a text. `MemShelf` and `MemOut` are an outside in memory that moves a few bytes at a time
+//! and fails at the calls that its owner lists: their contracts are exact, so that what is proved of
+//! a program over them is all that there is to know. `DiskShelf` and `StdOut` are the real outside.
+//! They tell nothing of the bytes that they hold, and are trusted to the system.
+//!
+//! The definitions stand in `specs/`: `Faults` (when a count rose), `Files` (what is told of a file,
+//! and what a fetch copies), `Output` (how an output grows), `Calls` (the calls that are to fail),
+//! `MemoryShelf` and `MemoryOutput` (what the outside in memory holds).
 #![tactic(auto)]
 
 mod count;
@@ -8,6 +19,8 @@ mod memory;
 mod memory_out;
 mod outside;
 mod read;
+#[cfg(test)]
+mod tests;
 mod write;
 
 pub use disk::{DiskShelf, StdOut};

@@ -3,6 +3,8 @@ ghost use Rattle.std.specs.Prelude.{◌≡◌, ◌≤◌, ◌-◌, ◌++◌, ◌
 ghost use Rattle.std.specs.Io.{ReadsAtMost};
 ghost use Rattle.std.specs.Option.{option_map};
 ghost use Rattle.std.specs.FinMap as map;
+ghost use Rattle.xif_base.specs.Faults.{Rose};
+ghost use Rattle.xif_base.specs.Files.{IsMissing, HasBytes, Copies};
 ghost use Rattle.xif_base.specs.Calls.{is_failing};
 ghost use Rattle.xif_base.specs.MemoryShelf.{new_shelf, after_fetch};
 
@@ -72,15 +74,47 @@ impl MemShelf {
 }
 
 impl Shelf for MemShelf {
-    ghost use Rattle.std.specs.Prelude.{◌≡◌, [], Some};
-
     ghost files = { λ s. Some s.files };
 
     ghost fetch_faults = { λ s. s.fetch_faults };
 
     ghost faultless = { λ s. s.fetches.failing ≡ [] };
 
-    fn fetch(&mut self, name: &str, at: u64, buf: &mut [u8]) -> Result<usize, Failed> {
+    fn fetch(&mut self, name: &str, at: u64, buf: &mut [u8]) -> Result<usize, Failed>
+        // A file that isn't there is a failure that has no number and is no fault.
+        ensures absent { map.get self.old.files name.now ≡ None → IsErr result }
+        ensures absent_stays { map.get self.old.files name.now ≡ None → self.new ≡ self.old }
+
+        // A fetch of a file fails exactly where its number is listed, and the count rises there.
+        ensures fails { IsSome (map.get self.old.files name.now) →
+            (IsErr result ↔ IsTrue (is_failing self.old.fetches)) }
+        ensures counted { IsSome (map.get self.old.files name.now) → self.new ≡ after_fetch self.old }
+
+        // It moves what the grain, the buffer and the file allow, and leaves the rest of the buffer.
+        ensures moved { IfOk result (λ n. (bytes : List ℕ) →
+            map.get self.old.files name.now ≡ Some bytes →
+            n ≡ min self.old.grain (min (length buf.old) (length bytes - at))) }
+        ensures copied { IfOk result (λ n. (bytes : List ℕ) →
+            map.get self.old.files name.now ≡ Some bytes →
+            buf.new ≡ take n (drop at bytes) ++ drop n buf.old) }
+        ensures err { OnErr result (buf.new ≡ buf.old) }
+
+        // What every shelf does.
+        ensures bound { ReadsAtMost result buf.new }
+        ensures bytes { IfOk result (λ n. (bytes : List ℕ) →
+            HasBytes (Some self.old.files) name.now bytes → Copies bytes at n buf.new) }
+        ensures missing { IsMissing (Some self.old.files) name.now → IsErr result }
+        ensures failed { OnErr result (Rose self.old.fetch_faults self.new.fetch_faults
+            ⊎ (IsMissing (Some self.old.files) name.now
+            × (self.new.fetch_faults ≡ self.old.fetch_faults))) }
+        ensures count { self.old.fetch_faults ≤ self.new.fetch_faults }
+        ensures files { self.new.files ≡ self.old.files }
+        ensures stays_faultless { self.old.fetches.failing ≡ [] → self.new.fetches.failing ≡ [] }
+        ensures no_fault { self.old.fetches.failing ≡ [] →
+            self.new.fetch_faults ≡ self.old.fetch_faults }
+        ensures only_missing { self.old.fetches.failing ≡ [] →
+            OnErr result (IsMissing (Some self.old.files) name.now) }
+    {
         let Some(bytes) = self.files.get(name) else {
             return Err(Failed);
         };

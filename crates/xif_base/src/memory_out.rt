@@ -1,5 +1,7 @@
 // An output in memory, whose calls move as few bytes and fail as often as its owner says.
-ghost use Rattle.std.specs.Prelude.{◌≡◌, ◌≢◌, ◌≤◌, ◌↔◌, Some, [], length, take, min, IfOk, OnErr, IsErrOf, IsTrue, MatchResult};
+ghost use Rattle.std.specs.Prelude.{◌≡◌, ◌≢◌, ◌≤◌, ◌<◌, ◌++◌, ◌↔◌, Some, [], length, take, min, IfOk, OnErr, IsErrOf, IsTrue, MatchResult};
+ghost use Rattle.std.specs.Io.{WritesAtMost};
+ghost use Rattle.xif_base.specs.Faults.{Rose};
 ghost use Rattle.xif_base.specs.Calls.{is_failing};
 ghost use Rattle.xif_base.specs.MemoryOutput.{new_output, after_put};
 
@@ -58,15 +60,34 @@ impl MemOut {
 }
 
 impl Out for MemOut {
-    ghost use Rattle.std.specs.Prelude.{◌≡◌, [], Some};
-
     ghost put_bytes = { λ s. Some s.bytes };
 
     ghost faults = { λ s. s.faults };
 
     ghost faultless = { λ s. s.puts.failing ≡ [] };
 
-    fn put(&mut self, piece: &[u8]) -> Result<usize, WriteFail> {
+    fn put(&mut self, piece: &[u8]) -> Result<usize, WriteFail>
+        // A put fails exactly where its number is listed, and the count rises there.
+        ensures fails { (result ≡ Err WriteFail.Failed) ↔ IsTrue (is_failing self.old.puts) }
+
+        // It moves what the grain allows. A put that finds no memory has a number too, and is no fault.
+        ensures moved { IfOk result (λ n. n ≡ min self.old.grain (length piece.now)) }
+        ensures counted { MatchResult result
+            (λ n. self.new ≡ after_put self.old (take n piece.now))
+            (λ _. self.new ≡ after_put self.old []) }
+
+        // What every output does.
+        ensures bound { WritesAtMost result piece.now }
+        ensures some { IfOk result (λ n. 0 < length piece.now → 0 < n) }
+        ensures bytes { MatchResult result
+            (λ n. self.new.bytes ≡ self.old.bytes ++ take n piece.now)
+            (λ _. self.new.bytes ≡ self.old.bytes) }
+        ensures failed { IsErrOf result WriteFail.Failed → Rose self.old.faults self.new.faults }
+        ensures count { self.old.faults ≤ self.new.faults }
+        ensures stays_faultless { self.old.puts.failing ≡ [] → self.new.puts.failing ≡ [] }
+        ensures no_fault { self.old.puts.failing ≡ [] → self.new.faults ≡ self.old.faults }
+        ensures only_memory { self.old.puts.failing ≡ [] → result ≢ Err WriteFail.Failed }
+    {
         if self.puts.fails() {
             self.faults.raise();
             return Err(WriteFail::Failed);

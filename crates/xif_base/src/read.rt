@@ -30,7 +30,7 @@ impl From<AllocError> for ReadFail {
 /// The most bytes that one fetch is asked for.
 const PIECE: usize = 65_536;
 
-/// Reads a whole file of at most `limit` bytes. At most one byte more than the limit is fetched.
+/// Reads a whole file of at most `limit` bytes. At most 65,536 bytes more than the limit are fetched.
 pub fn read_all<S: Shelf>(
     alloc: Global,
     shelf: &mut S,
@@ -71,15 +71,25 @@ pub fn read_all<S: Shelf>(
         IsMissing (S.files shelf.old) name.now }
 {
     let mut bytes = Vec::new(alloc);
-    let mut piece = vec![in alloc; 0; PIECE]?;
+    let mut room = new_room(alloc)?;
+    let piece = room.as_mut_slice();
     loop {
-        let left = limit - bytes.len() as u64;
-        let wanted = PIECE.min(left.saturating_add(1) as usize);
-        match shelf.fetch(name, bytes.len() as u64, &mut piece[..wanted]) {
-            Err(Failed) => return Err(ReadFail::ReadFault),
+        match shelf.fetch(name, bytes.len() as u64, piece) {
             Ok(0) => return Ok(bytes),
-            Ok(count) if count as u64 > left => return Err(ReadFail::TooBig),
-            Ok(count) => bytes.extend_from_slice(&piece[..count])?,
+            Ok(count) => {
+                bytes.extend_from_slice(&piece[..count])?;
+                if bytes.len() as u64 > limit {
+                    return Err(ReadFail::TooBig);
+                }
+            }
+            Err(Failed) => return Err(ReadFail::ReadFault),
         }
     }
+}
+
+/// Room for what one fetch copies.
+fn new_room(alloc: Global) -> Result<Vec<u8>, AllocError>
+    ensures { IfOk result (λ room. vec_len room ≡ PIECE) }
+{
+    vec![in alloc; 0; PIECE]
 }

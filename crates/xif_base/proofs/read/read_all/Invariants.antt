@@ -1,4 +1,4 @@
-use Rattle.std.proofs.Common.{◌≡◌, ◌≤◌, ℕ, List, ◌-◌, vec_len}
+use Rattle.std.proofs.Common.{◌≡◌, ◌≤◌, ◌<◌, ℕ, List, ◌-◌, length, vec_len}
 use Rattle.xif_base.specs.Files.{HasBytes, IsMissing}
 use Rattle.xif_base.proofs.Fronts.{IsFront}
 use Rattle.xif_base.proofs.read.read_all.Given as goal
@@ -7,7 +7,7 @@ abbrev pub invariant-loop-bytes : goal.invariant-loop-bytes
 invariant-loop-bytes g l = record {
   front : (bytes : List ℕ) → HasBytes (g.S.Shelf.files l.fn.shelf) l.name bytes → IsFront l.bytes.items bytes;
   within : vec_len l.bytes ≤ l.limit;
-  room : vec_len l.piece ≡ 65536;
+  room : 0 < length l.piece;
   count : g.S.Shelf.fetch_faults l.fn.shelf ≤ g.S.Shelf.fetch_faults l.shelf;
   missing : IsMissing (g.S.Shelf.files l.fn.shelf) l.name → g.S.Shelf.fetch_faults l.shelf ≡ g.S.Shelf.fetch_faults l.fn.shelf;
   files : g.S.Shelf.files l.shelf ≡ g.S.Shelf.files l.fn.shelf;

@@ -1,0 +1,26 @@
+use Rattle.std.proofs.Common.{arith, ap, ◌∙◌}
+use Rattle.xif_base.specs.Files.{told, IsMissing, HasBytes}
+use Rattle.xif_base.proofs.Fronts.{IsFront-append}
+use Rattle.xif_base.proofs.read.read_all.Goals as goal
+
+pub loop-bytes-preserved : goal.loop-bytes-preserved
+loop-bytes-preserved g c =
+    let before = c.loop-bytes.invariant in
+    let call = c.fetch.ensures in
+    let added = c.in_ok-extend_from_slice-in-Ok.ensures.items in
+    record {
+      front = λ bytes has.
+          let here : HasBytes (g.S.Shelf.files c.loop-bytes.shelf) c.args.name.now bytes = ap (λ files. told files c.args.name.now) before.files ∙ has in
+          let copied = c.in-Ok.ensures.bytes bytes here in
+          rw added (IsFront-append c.loop-bytes.bytes.items bytes c.fetch.new.buf c.len.result c.in-Ok.count (omega arith) (before.front bytes has) copied c.in-Ok.ensures.bound.0);
+      within = omega arith;
+      room = omega arith;
+      count = omega (arith, call.count, before.count);
+      missing = λ gone.
+          let here : IsMissing (g.S.Shelf.files c.loop-bytes.shelf) c.args.name.now = ap (λ files. told files c.args.name.now) before.files ∙ gone in
+          let failed = c.in-Ok.ensures.missing here in
+          cc;
+      files = call.files ∙ before.files;
+      faultless = λ none. call.stays_faultless (before.faultless none);
+      no_fault = λ none. call.no_fault (before.faultless none) ∙ before.no_fault none;
+    }

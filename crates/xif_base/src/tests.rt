@@ -1,0 +1,99 @@
+// Each public call on its happy path, and the calls that are to fail.
+use super::*;
+use std::fs;
+use std::fs::File;
+use std::io::Write;
+use std::test::Fail;
+
+const LETTERS: &[u8] = b"abcdefg";
+
+#[test]
+fn a_shelf_in_memory_fails_by_number_and_moves_by_its_grain(rt: HostRuntime) -> Result<(), Fail> {
+    let mut shelf = MemShelf::new(rt.alloc(), 3, &[1])?;
+    shelf.insert("letters", LETTERS)?;
+    assert_eq!(rt; shelf.bytes("letters"), Some(LETTERS));
+    assert_eq!(rt; shelf.bytes("digits"), None);
+    let calls: [(&str, u64, Result<&[u8], Failed>); 7] = [
+        ("digits", 0, Err(Failed)),
+        ("letters", 0, Ok(b"abc")),
+        ("letters", 3, Err(Failed)),
+        ("letters", 3, Ok(b"def")),
+        ("letters", 6, Ok(b"g")),
+        ("letters", 7, Ok(b"")),
+        ("letters", 9, Ok(b"")),
+    ];
+    for (name, at, want) in calls {
+        let mut buf = [b'.'; 5];
+        let got = shelf.fetch(name, at, &mut buf);
+        assert_eq!(rt; got, want.map(|bytes| bytes.len()), "{name} at {at}");
+        let moved = want.unwrap_or(b"");
+        assert!(rt; buf.starts_with(moved), "{name} at {at}");
+        assert!(rt;
+            buf[moved.len()..].iter().all(|byte| *byte == b'.'),
+            "{name} at {at}"
+        );
+    }
+    assert_eq!(rt; shelf.fetch("letters", 0, &mut []), Ok(0));
+    Ok(())
+}
+
+#[test]
+fn a_file_is_read_whole_within_its_limit(rt: HostRuntime) -> Result<(), Fail> {
+    let cases: [(&str, &[u64], u64, Result<&[u8], ReadFail>); 6] = [
+        ("letters", &[], 7, Ok(LETTERS)),
+        ("letters", &[], 6, Err(ReadFail::TooBig)),
+        ("letters", &[1], 7, Err(ReadFail::ReadFault)),
+        ("empty", &[], 0, Ok(b"")),
+        ("letters", &[], 0, Err(ReadFail::TooBig)),
+        ("digits", &[], 7, Err(ReadFail::ReadFault)),
+    ];
+    for (name, fetches, limit, want) in cases {
+        let mut shelf = MemShelf::new(rt.alloc(), 3, fetches)?;
+        shelf.insert("letters", LETTERS)?;
+        shelf.insert("empty", b"")?;
+        match read_all(rt.alloc(), &mut shelf, name, limit) {
+            Ok(bytes) => assert_eq!(rt; Ok(bytes.as_slice()), want, "{name} within {limit}"),
+            Err(fail) => assert_eq!(rt; Err(fail), want, "{name} within {limit}"),
+        }
+    }
+    Ok(())
+}
+
+#[test]
+fn all_bytes_are_put_or_a_front_of_them(rt: HostRuntime) -> Result<(), Fail> {
+    let cases: [(&[u64], Result<(), WriteFail>, &[u8]); 4] = [
+        (&[], Ok(()), LETTERS),
+        (&[0], Err(WriteFail::Failed), b""),
+        (&[2], Err(WriteFail::Failed), b"abcdef"),
+        (&[3], Ok(()), LETTERS),
+    ];
+    for (puts, want, bytes) in cases {
+        let mut out = MemOut::new(rt.alloc(), 3, puts)?;
+        assert_eq!(rt; put_all(&mut out, LETTERS), want);
+        assert_eq!(rt; out.bytes(), bytes);
+    }
+    Ok(())
+}
+
+#[test]
+fn a_shelf_on_disk_reads_a_file_and_misses_one(rt: HostRuntime) -> Result<(), Fail> {
+    let path = "/tmp/xif_base_a_shelf_on_disk";
+    File::create(&rt, path)?.write_all(LETTERS)?;
+    let mut shelf = DiskShelf::new(&rt);
+    let read = read_all(rt.alloc(), &mut shelf, path, 7);
+    let mut buf = [b'.'; 2];
+    let part = shelf.fetch(path, 4, &mut buf);
+    fs::remove_file(&rt, path)?;
+    assert_eq!(rt; read?.as_slice(), LETTERS);
+    assert_eq!(rt; part, Ok(2));
+    assert_eq!(rt; &buf, b"ef");
+    assert_eq!(rt; shelf.fetch(path, 0, &mut buf), Err(Failed));
+    assert_eq!(rt; shelf.fetch(path, 0, &mut []), Ok(0));
+    Ok(())
+}
+
+#[test]
+fn the_standard_output_takes_a_short_piece(rt: HostRuntime) {
+    let mut out = StdOut::new(&rt);
+    assert_eq!(rt; out.put(b"short\n"), Ok(6));
+}
