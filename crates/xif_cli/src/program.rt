@@ -31,6 +31,11 @@ pub fn xif<S: Shelf, O: Out>(alloc: Global, words: &[String], shelf: &mut S, out
     ensures unbuilt { result ≡ Status.Unbuilt → IfRaw words.now (λ image count. (bytes : List ℕ) →
         HasBytes (S.files shelf.old) image bytes → ComesToUnbuilt count (raw_start bytes)) }
 
+    ensures comes_to_unbuilt { IfRaw words.now (λ image count. (bytes : List ℕ) →
+        HasBytes (S.files shelf.old) image bytes → length bytes ≤ RAW_LIMIT → ComesToUnbuilt count (raw_start bytes) →
+        (result ≡ Status.Unbuilt) ⊎ (result ≡ Status.NoMemory)
+        ⊎ Rose (S.fetch_faults shelf.old) (S.fetch_faults shelf.new)) }
+
     // A fault is told of a read or a write that failed, or of a file that isn't there.
     ensures read_fault { (w : Which) → result ≡ Status.ReadFault w → IfRaw words.now (λ image count.
         (w ≡ Which.Image) × (Rose (S.fetch_faults shelf.old) (S.fetch_faults shelf.new) ⊎ IsMissing (S.files shelf.old) image)) }
@@ -74,3 +79,6 @@ pub fn xif<S: Shelf, O: Out>(alloc: Global, words: &[String], shelf: &mut S, out
         Some(_) => Status::Unbuilt,
     }
 }
+
+#[cfg(test)]
+mod tests;

@@ -44,6 +44,9 @@ pub(crate) fn run_raw<S: Shelf, O: Out>(
     ensures complete { (bytes : List ℕ) → HasBytes (S.files shelf.old) image.now bytes → length bytes ≤ RAW_LIMIT →
         (result ≡ Status.Done) ⊎ (result ≡ Status.Unbuilt) ⊎ (result ≡ Status.NoMemory)
         ⊎ Rose (S.fetch_faults shelf.old) (S.fetch_faults shelf.new) ⊎ Rose (O.faults out.old) (O.faults out.new) }
+    ensures comes_to_unbuilt { (bytes : List ℕ) → HasBytes (S.files shelf.old) image.now bytes → length bytes ≤ RAW_LIMIT →
+        ComesToUnbuilt count (raw_start bytes) → (result ≡ Status.Unbuilt) ⊎ (result ≡ Status.NoMemory)
+        ⊎ Rose (S.fetch_faults shelf.old) (S.fetch_faults shelf.new) }
     ensures put { (bytes : List ℕ) → HasBytes (S.files shelf.old) image.now bytes →
         HasPut result (O.put_bytes out.old) (O.put_bytes out.new) (raw_report bytes count) }
     ensures refusal { IsRefusal result → out.new ≡ out.old }
@@ -73,6 +76,7 @@ fn print_run<O: Out>(alloc: Global, image: &[u8], count: u32, out: &mut O) -> St
     ensures no_too_big { (w : Which) → result ≢ Status.TooBig w }
     ensures done { result ≡ Status.Done → ¬ ComesToUnbuilt count (raw_start image.now) }
     ensures unbuilt { result ≡ Status.Unbuilt → ComesToUnbuilt count (raw_start image.now) }
+    ensures comes_to_unbuilt { ComesToUnbuilt count (raw_start image.now) → (result ≡ Status.Unbuilt) ⊎ (result ≡ Status.NoMemory) }
     ensures write_fault { (w : Which) → result ≡ Status.WriteFault w → (w ≡ Which.Output) × Rose (O.faults out.old) (O.faults out.new) }
     ensures put { HasPut result (O.put_bytes out.old) (O.put_bytes out.new) (raw_report image.now count) }
     ensures refusal { IsRefusal result → out.new ≡ out.old }

@@ -1,5 +1,5 @@
 //! What a command ended with.
-ghost use Rattle.std.specs.Prelude.{◌≡◌};
+ghost use Rattle.std.specs.Prelude.{◌≡◌, ◌≢◌, ◌↔◌, IsTrue};
 ghost use Rattle.xif_cli.specs.Status.{number_of, word_of};
 
 use std::fmt;
@@ -38,6 +38,13 @@ impl Status {
             Status::NoMemory => 10,
             Status::Unbuilt => 11,
         }
+    }
+
+    /// Whether a fault line is printed of it.
+    pub fn is_fault(&self) -> bool
+        ensures { IsTrue result ↔ (self.now ≢ Status.Done) }
+    {
+        *self != Status::Done
     }
 }
 

@@ -25,3 +25,10 @@ returns-in-Some-Raw-clause-unbuilt g c = λ unbuilt.
 pub returns-in-Some-Raw-clause-put : goal.returns-in-Some-Raw-clause-put
 returns-in-Some-Raw-clause-put g c =
     on_raw _ c.args.words.now c.in-Some-Raw.image.now c.in-Some-Raw.count c.run_raw.ensures.put (λ form is. rw c.in-Some-Raw.field-0-is at (c.in-Some-Raw.ensures.only form is))
+
+pub returns-in-None-clause-comes_to_unbuilt : goal.returns-in-None-clause-comes_to_unbuilt
+returns-in-None-clause-comes_to_unbuilt g c = no_raw _ c.args.words.now c.in-None.ensures.only
+
+pub returns-in-Some-Raw-clause-comes_to_unbuilt : goal.returns-in-Some-Raw-clause-comes_to_unbuilt
+returns-in-Some-Raw-clause-comes_to_unbuilt g c =
+    on_raw _ c.args.words.now c.in-Some-Raw.image.now c.in-Some-Raw.count c.run_raw.ensures.comes_to_unbuilt (λ form is. rw c.in-Some-Raw.field-0-is at (c.in-Some-Raw.ensures.only form is))
