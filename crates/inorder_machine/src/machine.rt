@@ -178,3 +178,36 @@ fn write_of(target: Option<u8>, value: u32) -> Write
         None => Write::None,
     }
 }
+
+#[cfg(test)]
+mod tests {
+    use super::*;
+    use std::test::Fail;
+    use xif_image::Image;
+
+    #[test]
+    fn steps_to_its_stop(rt: HostRuntime) -> Result<(), Fail> {
+        // addi x1, x0, 5; ecall, at 0x100
+        let words = [0x93, 0x00, 0x50, 0x00, 0x73, 0x00, 0x00, 0x00];
+        let mut memory = Memory::new(rt.alloc(), 0x100, 8)?;
+        memory.place(&Image::raw(rt.alloc(), &words, 0x100, 0x100, 8)?);
+        let mut machine = Machine::new(memory, 0x100);
+        let line = Retire {
+            pc: 0x100,
+            word: 0x0050_0093,
+            next: 0x104,
+            write: Write::One { rd: 1, value: 5 },
+        };
+        assert_eq!(rt; machine.step(), Stepped::Retired(line));
+        assert_eq!(rt; machine.step(), Stepped::Stop(StopCause::Ecall));
+        assert_eq!(rt; (machine.pc(), machine.register(1)), (0x104, 5));
+        assert!(rt; machine.registers()[2..].iter().all(|value| *value == 0));
+        assert_eq!(rt; machine.memory().word(0x104), Some(0x73));
+        let stopped = Advanced {
+            retired: 0,
+            stop: Some(StopCause::Ecall),
+        };
+        assert_eq!(rt; machine.advance(1), stopped);
+        Ok(())
+    }
+}
