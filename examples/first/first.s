@@ -1,0 +1,2 @@
+        addi    x1, x0, 5
+        ecall
