@@ -1,5 +1,5 @@
 -- No word matches two rows, by a test over the pairs of rows.
-use Rattle.std.proofs.Common.{◌≡◌, ◌<◌, ◌==◌, ◌||◌, ℕ, zero, suc, Bool, true, false, not, cond, List, [], ◌∷◌, Some, length, get_or, bit_and, refl, sym, ap, ◌∙◌, inl, inr, arith}
+use Rattle.std.proofs.Common.{◌≡◌, ◌<◌, ◌==◌, ◌||◌, ℕ, zero, suc, Bool, true, false, not, List, [], ◌∷◌, Some, length, get_or, bit_and, refl, sym, ap, ◌∙◌, inl, inr, arith}
 use Rattle.std.specs.List.{find, list_all}
 use Rattle.std.proofs.lemmas.Bool.{cases_Bool, or_cases, both_ways, cond-true, cond-false, eqb-true, eq-eqb}
 use Rattle.std.proofs.lemmas.List.Elements.{All-contains}
