@@ -14,14 +14,14 @@ use Rattle.rv32_table.specs.Table.{rows}
 abbrev pub place_of : Row → ℕ
 place_of r = tag_of the_type r
 
-place_of-below : (r : Row) → place_of r < length rows
+pub place_of-below : (r : Row) → place_of r < length rows
 place_of-below r = tag_below (variants the_type) (the_type.to r)
 
 -- each row of the list stands at its place, by a test over the list
 in_place : (k : ℕ) → k < length rows → place_of (get_or rows k Addi) ≡ k
 in_place k h = eqb-true (place_of (get_or rows k Addi)) k (agree_below_at (λ i. place_of (get_or rows i Addi) == i) (λ i. true) (length rows) k refl h)
 
-listed_at : (r : Row) → get_or rows (place_of r) Addi ≡ r
+pub listed_at : (r : Row) → get_or rows (place_of r) Addi ≡ r
 listed_at r = tag_one the_type tt (get_or rows (place_of r) Addi) r (in_place (place_of r) (place_of-below r))
 
 pub listed : (r : Row) → Contains rows r

@@ -1,12 +1,15 @@
 -- What the table says of a word, and of a decoded instruction.
-use Rattle.std.specs.Prelude.{◌==◌, ◌<◌, ℕ, Bool, cond, Option, Some, None, bit_and, find}
+use Rattle.std.specs.Prelude.{◌==◌, ◌<◌, ◌+◌, ◌*◌, ◌%◌, ◌^◌, ℕ, Bool, false, cond, Option, Some, None, bit_and, find}
 use Rattle.std.specs.Option.{option_map}
 use Rattle.rv32_table.specs.declared.rows.Row.{Row}
 use Rattle.rv32_table.specs.declared.instr.Instr.{Instr}
 use Rattle.rv32_table.specs.declared.instr.Kind.{Kind}
-use Rattle.rv32_table.specs.declared.instr.Kind.TheVariants.{Alu, Stop}
-use Rattle.rv32_table.specs.Word.{bits, sign_extended}
-use Rattle.rv32_table.specs.Table.{Format, NoImmediate, IType, Reads, ReadsNone, ReadsRs1, ReadsBoth, Operands, Meaning, Computes, Stops, Line, line, rows}
+use Rattle.rv32_table.specs.declared.instr.Kind.TheVariants.{Alu, Load, Store, Control, Fence, Stop}
+use Rattle.rv32_table.specs.declared.control.Next.{Next}
+use Rattle.rv32_table.specs.declared.control.Next.TheVariants.{Go, Misaligned}
+use Rattle.rv32_table.specs.declared.instr.Access.{Access}
+use Rattle.rv32_table.specs.Word.{wrapped, bits, sign_extended}
+use Rattle.rv32_table.specs.Table.{Format, NoImmediate, IType, SType, BType, UType, JType, Reads, ReadsNone, ReadsRs1, ReadsBoth, Operands, Meaning, Computes, Loads, Stores, Jumps, Branches, Fences, Stops, Line, line, rows}
 
 -- the bits of a word under the mask of a line are its match
 abbrev pub matches : ℕ → Line → Bool
@@ -20,6 +23,12 @@ row_of word = find (λ r. matches word (line r)) rows
 abbrev pub immediate_of : Format → ℕ → ℕ
 immediate_of NoImmediate word = 0
 immediate_of IType word = sign_extended 12 (bits word 31 20)
+immediate_of SType word = sign_extended 12 (2 ^ 5 * bits word 31 25 + bits word 11 7)
+immediate_of BType word =
+    sign_extended 13 (2 ^ 12 * bits word 31 31 + 2 ^ 11 * bits word 7 7 + 2 ^ 5 * bits word 30 25 + 2 * bits word 11 8)
+immediate_of UType word = 2 ^ 12 * bits word 31 12
+immediate_of JType word =
+    sign_extended 21 (2 ^ 20 * bits word 31 31 + 2 ^ 12 * bits word 19 12 + 2 ^ 11 * bits word 20 20 + 2 * bits word 30 21)
 
 -- a word, read as an instruction of a row
 abbrev pub instr_of : ℕ → Row → Instr
@@ -41,8 +50,17 @@ pub record NamesRegisters (i : Instr) : Type 0 where
   pub rs1 : i.rs1 < 32
   pub rs2 : i.rs2 < 32
 
+-- the field of source register 0, 1 or 2: rs1, rs2 or rs3
+abbrev pub source_field : ℕ → ℕ → ℕ
+source_field word lane = cond (lane == 0) (bits word 19 15) (cond (lane == 1) (bits word 24 20) (bits word 31 27))
+
 abbrev pub kind_by : Meaning → Kind
 kind_by (Computes value) = Alu
+kind_by (Loads width signed) = Load
+kind_by (Stores width) = Store
+kind_by (Jumps target) = Control
+kind_by (Branches taken) = Control
+kind_by Fences = Fence
 kind_by Stops = Stop
 
 abbrev pub kind_of : Instr → Kind
@@ -67,8 +85,39 @@ operands_of i a b pc = record { a = a; b = b; pc = pc; imm = i.imm; shamt = i.rs
 
 abbrev pub value_by : Meaning → Operands → ℕ
 value_by (Computes value) x = value x
-value_by Stops x = 0
+value_by (Jumps target) x = wrapped (x.pc + 4)
+value_by _ x = 0
 
--- the value of rd, of an instruction that computes one
+-- the value of rd, of an instruction that computes one or jumps
 abbrev pub value_of : Instr → ℕ → ℕ → ℕ → ℕ
 value_of i a b pc = value_by (line i.row).meaning (operands_of i a b pc)
+
+-- to a target, which has to be a multiple of 4 (section 2.5)
+abbrev pub to_target : ℕ → Next
+to_target target = cond (target % 4 == 0) (Go target) (Misaligned target)
+
+abbrev pub next_by : Meaning → Operands → Next
+next_by (Jumps target) x = to_target (target x)
+next_by (Branches taken) x = cond (taken x) (to_target (wrapped (x.pc + x.imm))) (Go (wrapped (x.pc + 4)))
+next_by _ x = Go (wrapped (x.pc + 4))
+
+-- where the machine goes after an instruction
+abbrev pub next_of : Instr → ℕ → ℕ → ℕ → Next
+next_of i a b pc = next_by (line i.row).meaning (operands_of i a b pc)
+
+abbrev pub width_by : Meaning → ℕ
+width_by (Loads width signed) = width
+width_by (Stores width) = width
+width_by _ = 0
+
+abbrev pub signed_by : Meaning → Bool
+signed_by (Loads width signed) = signed
+signed_by _ = false
+
+-- the bytes that a load or a store accesses, with the value of rs1
+abbrev pub access_of : Instr → ℕ → Access
+access_of i a = record {
+  addr = wrapped (a + i.imm);
+  width = width_by (line i.row).meaning;
+  signed = signed_by (line i.row).meaning;
+}

@@ -33,13 +33,27 @@ pub struct Instr {
     pub imm: u32,
 }
 
+/// The bytes of a load or a store: their first address, how many they are (1, 2 or 4), and whether
+/// the sign of what is loaded fills the register.
+#[derive(Clone, Copy, Debug, PartialEq, Eq)]
+pub struct Access {
+    pub addr: u32,
+    pub width: u8,
+    pub signed: bool,
+}
+
 impl Instr {
     pub fn kind(&self) -> Kind
         ensures { result ≡ kind_of self.now }
     {
         match self.row {
-            Row::Addi => Kind::Alu,
-            Row::Ecall => Kind::Stop,
+            Row::Jal | Row::Jalr => Kind::Control,
+            Row::Beq | Row::Bne | Row::Blt | Row::Bge | Row::Bltu | Row::Bgeu => Kind::Control,
+            Row::Lb | Row::Lh | Row::Lw | Row::Lbu | Row::Lhu => Kind::Load,
+            Row::Sb | Row::Sh | Row::Sw => Kind::Store,
+            Row::Fence => Kind::Fence,
+            Row::Ecall | Row::Ebreak => Kind::Stop,
+            _ => Kind::Alu,
         }
     }
 
@@ -48,8 +62,15 @@ impl Instr {
         ensures { result ≡ sources_of self.now }
     {
         match self.row {
-            Row::Addi => (Some(self.rs1), None),
-            Row::Ecall => (None, None),
+            Row::Lui | Row::Auipc | Row::Jal | Row::Fence | Row::Ecall | Row::Ebreak => {
+                (None, None)
+            }
+            Row::Jalr | Row::Lb | Row::Lh | Row::Lw | Row::Lbu | Row::Lhu => (Some(self.rs1), None),
+            Row::Addi | Row::Slti | Row::Sltiu | Row::Xori | Row::Ori | Row::Andi => {
+                (Some(self.rs1), None)
+            }
+            Row::Slli | Row::Srli | Row::Srai => (Some(self.rs1), None),
+            _ => (Some(self.rs1), Some(self.rs2)),
         }
     }
 
@@ -58,8 +79,9 @@ impl Instr {
         ensures { result ≡ target_of self.now }
     {
         match self.row {
-            Row::Ecall => None,
-            Row::Addi => if self.rd == 0 { None } else { Some(self.rd) },
+            Row::Beq | Row::Bne | Row::Blt | Row::Bge | Row::Bltu | Row::Bgeu => None,
+            Row::Sb | Row::Sh | Row::Sw | Row::Fence | Row::Ecall | Row::Ebreak => None,
+            _ => if self.rd == 0 { None } else { Some(self.rd) },
         }
     }
 }
