@@ -32,7 +32,7 @@ unless (Some fault) value = Err fault
 abbrev pub bytes_at : Region → ℕ → ℕ → List ℕ
 bytes_at m address count = take count (drop (address - m.base) m.bytes)
 
--- what a load gives: the number at an address, extended by 0
+-- what a load gives: the number whose lowest bytes stand at the address; its others are 0
 abbrev pub loaded : Region → ℕ → ℕ → Result ℕ MemFault
 loaded m address width = unless (fault_of m address width) (from_le_bytes w32 (bytes_at m address width))
 

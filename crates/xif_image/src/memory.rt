@@ -1,5 +1,5 @@
 ghost use Rattle.std.specs.Prelude.{◌≡◌, ◌≤◌, ◌+◌, ◌-◌, ◌%◌, ◌==◌, ◌^◌, ℕ, List, length, replicate, IfOk, OnOk, OnErr, All};
-ghost use Rattle.xif_image.specs.Region.{IsWidth, fault_of, unless, loaded, word_at, stored};
+ghost use Rattle.xif_image.specs.Region.{IsWidth, fault_of, unless, loaded, word_at, overwritten, stored};
 ghost use Rattle.xif_image.specs.Image.{placed, bytes_from, bytes_after, IsWithin};
 
 use crate::image::{ByteAt, Image};
@@ -93,9 +93,13 @@ impl Memory {
         ensures refused { OnErr result (self.new ≡ self.old) }
     {
         let start = self.start(addr, width)?;
-        let end = start + usize::from(width);
         let bytes = value.to_le_bytes();
-        self.bytes.as_mut_slice()[start..end].copy_from_slice(&bytes[..usize::from(width)]);
+        // With a length that is known here, each copy is one move.
+        match width {
+            1 => overwrite(self.bytes.as_mut_slice(), start, &bytes[..1]),
+            2 => overwrite(self.bytes.as_mut_slice(), start, &bytes[..2]),
+            _ => overwrite(self.bytes.as_mut_slice(), start, &bytes),
+        }
         Ok(())
     }
 
@@ -162,4 +166,11 @@ fn is_aligned(addr: u32, width: u8) -> bool
     ensures { result ≡ (addr % width == 0) }
 {
     addr & (u32::from(width) - 1) == 0
+}
+
+fn overwrite(bytes: &mut [u8], at: usize, others: &[u8])
+    requires { at + length others.now ≤ length bytes.old }
+    ensures { bytes.new ≡ overwritten bytes.old at others.now }
+{
+    bytes[at..at + others.len()].copy_from_slice(others);
 }
