@@ -9,4 +9,4 @@ mod image;
 mod memory;
 
 pub use image::{ByteAt, Image, ImageFault};
-pub use memory::Memory;
+pub use memory::{MemFault, Memory};

@@ -1,5 +1,5 @@
-ghost use Rattle.std.specs.Prelude.{◌≡◌, ◌≤◌, ◌+◌, ◌^◌, ℕ, List, length, replicate, IfOk, All};
-ghost use Rattle.xif_image.specs.Region.{word_at};
+ghost use Rattle.std.specs.Prelude.{◌≡◌, ◌≤◌, ◌+◌, ◌-◌, ◌%◌, ◌==◌, ◌^◌, ℕ, List, length, replicate, IfOk, OnOk, OnErr, All};
+ghost use Rattle.xif_image.specs.Region.{IsWidth, fault_of, unless, loaded, word_at, overwritten, stored};
 ghost use Rattle.xif_image.specs.Image.{placed, bytes_from, bytes_after, IsWithin};
 
 use crate::image::{ByteAt, Image};
@@ -15,14 +15,23 @@ pub struct Memory {
 }
 
 impl Model for Memory {
-    ghost use Rattle.std.specs.Prelude.{◌≤◌, ◌+◌, ◌^◌, vec_len};
+    ghost use Rattle.std.specs.Prelude.{◌≤◌, ◌<◌, ◌+◌, ◌^◌, vec_len};
     ghost use Rattle.xif_image.specs.Region.{Region};
 
     ghost Value = { Region };
 
     ghost view = { λ m. record { base = m.base; bytes = m.bytes.items } };
 
-    ghost invariant = { λ m. m.base + vec_len m.bytes ≤ 2 ^ 32 };
+    ghost invariant = { λ m. (vec_len m.bytes < 2 ^ 32) × (m.base + vec_len m.bytes ≤ 2 ^ 32) };
+}
+
+/// Why a load or a store can't be done.
+#[derive(Clone, Copy, Debug, PartialEq, Eq)]
+pub enum MemFault {
+    /// One of the bytes lies outside the memory.
+    Outside,
+    /// The address is no multiple of the width.
+    Misaligned,
 }
 
 impl Memory {
@@ -37,17 +46,87 @@ impl Memory {
         })
     }
 
+    /// A copy, which does not change with this memory.
+    pub fn copy(&self, alloc: Global) -> Result<Memory, NoMemory>
+        ensures { IfOk result (λ m. m ≡ self.now) }
+    {
+        Ok(Memory {
+            base: self.base,
+            bytes: Vec::from_slice(alloc, self.bytes.as_slice())?,
+        })
+    }
+
+    /// The address of the first byte.
+    pub fn base(&self) -> u32
+        ensures { result ≡ self.now.base }
+    {
+        self.base
+    }
+
+    /// The number of bytes.
+    pub fn size(&self) -> u32
+        ensures { result ≡ length self.now.bytes }
+    {
+        self.bytes.len() as u32
+    }
+
+    /// The number of `width` bytes at an address. It is refused where the address is no multiple of
+    /// the width, and else where a byte lies outside.
+    pub fn load(&self, addr: u32, width: u8) -> Result<u32, MemFault>
+        requires { IsWidth width }
+        ensures { result ≡ loaded self.now addr width }
+    {
+        let start = self.start(addr, width)?;
+        let bytes = &self.bytes.as_slice()[start..];
+        Ok(match width {
+            1 => u32::from(bytes[0]),
+            2 => u32::from(u16::from_le_bytes([bytes[0], bytes[1]])),
+            _ => u32::from_le_bytes([bytes[0], bytes[1], bytes[2], bytes[3]]),
+        })
+    }
+
+    /// Puts the lowest `width` bytes of a value at an address. It is refused as a load is.
+    pub fn store(&mut self, addr: u32, width: u8, value: u32) -> Result<(), MemFault>
+        requires { IsWidth width }
+        ensures fault { result ≡ unless (fault_of self.old addr width) tt }
+        ensures stored { OnOk result (self.new ≡ stored self.old addr width value) }
+        ensures refused { OnErr result (self.new ≡ self.old) }
+    {
+        let start = self.start(addr, width)?;
+        let bytes = value.to_le_bytes();
+        // With a length that is known here, each copy is one move.
+        match width {
+            1 => overwrite(self.bytes.as_mut_slice(), start, &bytes[..1]),
+            2 => overwrite(self.bytes.as_mut_slice(), start, &bytes[..2]),
+            _ => overwrite(self.bytes.as_mut_slice(), start, &bytes),
+        }
+        Ok(())
+    }
+
     /// The 32-bit word at an address: `None` where the address is no multiple of 4 or one of its
     /// bytes lies outside.
     pub fn word(&self, addr: u32) -> Option<u32>
         ensures { result ≡ word_at self.now addr }
     {
-        if !addr.is_multiple_of(4) || addr < self.base {
-            return None;
+        self.load(addr, 4).ok()
+    }
+
+    /// The index of the byte at an address, if so many can be moved from there on.
+    fn start(&self, addr: u32, width: u8) -> Result<usize, MemFault>
+        requires { IsWidth width }
+        ensures { result ≡ unless (fault_of self.now addr width) (addr - self.now.base) }
+    {
+        if !is_aligned(addr, width) {
+            return Err(MemFault::Misaligned);
+        }
+        if addr < self.base {
+            return Err(MemFault::Outside);
         }
         let start = (addr - self.base) as usize;
-        let bytes = self.bytes.get(start..start + 4)?;
-        Some(u32::from_le_bytes([bytes[0], bytes[1], bytes[2], bytes[3]]))
+        if start + usize::from(width) > self.bytes.len() {
+            return Err(MemFault::Outside);
+        }
+        Ok(start)
     }
 
     /// Writes each byte of an image to its address, a later one in place of an earlier.
@@ -79,4 +158,19 @@ fn write_bytes(bytes: &mut [u8], base: u32, image: &[ByteAt])
     for byte in image {
         bytes[(byte.address - base) as usize] = byte.value;
     }
+}
+
+/// The address is a multiple of the width, which is a power of two.
+fn is_aligned(addr: u32, width: u8) -> bool
+    requires { IsWidth width }
+    ensures { result ≡ (addr % width == 0) }
+{
+    addr & (u32::from(width) - 1) == 0
+}
+
+fn overwrite(bytes: &mut [u8], at: usize, others: &[u8])
+    requires { at + length others.now ≤ length bytes.old }
+    ensures { bytes.new ≡ overwritten bytes.old at others.now }
+{
+    bytes[at..at + others.len()].copy_from_slice(others);
 }
