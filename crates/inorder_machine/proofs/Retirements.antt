@@ -4,9 +4,8 @@ use Rattle.std.specs.Option.{option_and_then, is_some, unwrap_or}
 use Rattle.std.proofs.lemmas.Bool.{cases_lt}
 use Rattle.std.proofs.lemmas.Bool.Decides.{nat_tests}
 use Rattle.inorder_machine.specs.declared.stop.StopCause.{StopCause}
-use Rattle.inorder_machine.specs.declared.machine.Stepped.TheVariants.{Unbuilt}
 use Rattle.inorder_machine.specs.Machine.{State, outcome_of}
-use Rattle.inorder_machine.specs.After.{next_by, next_state, after, retired_within, last_within, stop_of, stop_within, ComesToUnbuilt}
+use Rattle.inorder_machine.specs.After.{next_state, after, retired_within, last_within, stop_of, stop_within}
 
 -- one retirement more
 pub after-more : (n : ℕ) (s t : State) → after n s ≡ Some t → after (n + 1) s ≡ next_state t
@@ -63,12 +62,3 @@ ends-full n s t e = ends n n s t None e (sym (retired_within-full n s t e)) (gri
 -- by an instruction that doesn't retire
 pub ends-early : (budget n : ℕ) (s t : State) → after n s ≡ Some t → next_state t ≡ None → n < budget → Ends budget n s t (stop_of (outcome_of t))
 ends-early budget n s t e stop h = ends budget n s t (stop_of (outcome_of t)) e (sym (retired_within-stopped budget n s t e stop (omega arith))) (grind (arith, nat_tests))
-
--- where a run comes to an instruction that isn't built yet, it ends there
-pub unbuilt-last : (budget n : ℕ) (s t : State) → after n s ≡ Some t → n ≡ retired_within budget s → ComesToUnbuilt budget s → (n < budget) × (outcome_of t ≡ Unbuilt)
-unbuilt-last budget n s t e same u =
-    let there : u.retired ≡ n =
-    sym (retired_within-stopped budget u.retired s u.state u.reached (ap (next_by u.state) u.unbuilt) (omega (arith, u.within))) ∙ sym same in
-    let state : Some u.state ≡ Some t = sym u.reached ∙ ap (λ k. after k s) there ∙ e in
-    let same_state : u.state ≡ t = cc in
-    (omega (arith, u.within, there), ap outcome_of (sym same_state) ∙ u.unbuilt)

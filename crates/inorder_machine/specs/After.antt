@@ -1,14 +1,13 @@
 -- The states of the in-order machine after any number of retirements.
-use Rattle.std.specs.Prelude.{◌≡◌, ◌<◌, ◌==◌, ℕ, suc, zero, Option, Some, None, is_some, if◌then◌else◌, option_and_then, unwrap_or}
+use Rattle.std.specs.Prelude.{◌==◌, ℕ, suc, zero, Option, Some, None, is_some, if◌then◌else◌, option_and_then, unwrap_or}
 use Rattle.inorder_machine.specs.declared.stop.StopCause.{StopCause}
 use Rattle.inorder_machine.specs.declared.machine.Stepped.{Stepped}
-use Rattle.inorder_machine.specs.declared.machine.Stepped.TheVariants.{Retired, Stop, Unbuilt}
+use Rattle.inorder_machine.specs.declared.machine.Stepped.TheVariants.{Retired, Stop}
 use Rattle.inorder_machine.specs.Machine.{State, outcome_of, taken}
 
 abbrev pub next_by : State → Stepped → Option State
 next_by s (Retired l) = Some (taken s l)
 next_by s (Stop cause) = None
-next_by s Unbuilt = None
 
 -- the state after the next instruction, if it retires
 abbrev pub next_state : State → Option State
@@ -27,7 +26,6 @@ retired_within (suc n) s = if is_some (after (suc n) s) then suc n else retired_
 abbrev pub stop_of : Stepped → Option StopCause
 stop_of (Retired l) = None
 stop_of (Stop cause) = Some cause
-stop_of Unbuilt = None
 
 -- the state in which a run within a budget ends
 abbrev pub last_within : ℕ → State → State
@@ -36,11 +34,3 @@ last_within n s = unwrap_or (after (retired_within n s) s) s
 -- the stop that ends a run within a budget; none where it ends by its budget
 abbrev pub stop_within : ℕ → State → Option StopCause
 stop_within n s = if retired_within n s == n then None else stop_of (outcome_of (last_within n s))
-
--- within a budget the machine comes to an instruction that isn't built yet
-pub record ComesToUnbuilt (n : ℕ) (s : State) : Type 0 where
-  pub retired : ℕ
-  pub within : retired < n
-  pub state : State
-  pub reached : after retired s ≡ Some state
-  pub unbuilt : outcome_of state ≡ Unbuilt

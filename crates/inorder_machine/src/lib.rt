@@ -9,6 +9,6 @@ mod line;
 mod machine;
 mod stop;
 
-pub use line::{Retire, Write};
+pub use line::{Retire, Store, Write};
 pub use machine::{Advanced, Machine, Stepped};
 pub use stop::StopCause;

@@ -8,6 +8,7 @@ pub struct Retire {
     /// The address of the instruction that comes next.
     pub next: u32,
     pub write: Write,
+    pub store: Option<Store>,
 }
 
 /// The registers that an instruction writes, with their new values. A write to x0 is none.
@@ -15,4 +16,14 @@ pub struct Retire {
 pub enum Write {
     None,
     One { rd: u8, value: u32 },
+}
+
+/// What an instruction writes to memory: the lowest `width` bytes of a value, the others of which
+/// are 0, from the address `addr` on.
+#[derive(Clone, Copy, Debug, PartialEq, Eq)]
+pub struct Store {
+    pub addr: u32,
+    /// In bytes: 1, 2 or 4.
+    pub width: u8,
+    pub value: u32,
 }

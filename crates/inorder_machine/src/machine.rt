@@ -1,13 +1,15 @@
-ghost use Rattle.std.specs.Prelude.{◌≡◌, ◌<◌, ◌↔◌, ℕ, Option, Some, None, replicate, slice_index, if◌then◌else◌};
-ghost use Rattle.inorder_machine.specs.Machine.{State, outcome_of, state_after, computed, taken, write_to, IsWrite, IfRetires};
+ghost use Rattle.std.specs.Prelude.{◌≡◌, ◌<◌, ◌*◌, ◌^◌, ℕ, false, Option, Some, None, replicate, slice_index};
 ghost use Rattle.rv32_table.specs.Instr.{kind_of, NamesRegisters};
-ghost use Rattle.inorder_machine.specs.After.{after, retired_within, last_within, stop_within, ComesToUnbuilt};
+ghost use Rattle.inorder_machine.specs.Machine.{outcome_of, outcome_of_instr, state_after, register_of, registers_after, write_to, store_of, cause_of, extended};
+ghost use Rattle.inorder_machine.specs.Lines.{IsWrite};
+ghost use Rattle.xif_image.specs.Region.{IsWidth};
+ghost use Rattle.inorder_machine.specs.After.{after, retired_within, last_within, stop_within};
 
-use crate::line::{Retire, Write};
+use crate::line::{Retire, Store, Write};
 use crate::stop::StopCause;
-use rv32_table::{Instr, Kind, alu, decode};
+use rv32_table::{Instr, Kind, Next, Row, access, alu, branch, decode};
 use std::marker::Model;
-use xif_image::Memory;
+use xif_image::{MemFault, Memory};
 
 /// The address of the next instruction, the 32 registers and the memory.
 #[derive(Drop)]
@@ -33,12 +35,9 @@ impl Model for Machine {
 pub enum Stepped {
     Retired(Retire),
     Stop(StopCause),
-    /// The next instruction isn't built yet.
-    Unbuilt,
 }
 
-/// How far a run came. Without a stop it came as far as it was to, or up to an instruction that
-/// isn't built yet.
+/// How far a run came. Without a stop it came as far as it was to.
 #[derive(Clone, Copy, Debug, PartialEq, Eq)]
 pub struct Advanced {
     pub retired: u64,
@@ -62,34 +61,29 @@ impl Machine {
         ensures outcome { result ≡ outcome_of self.old }
         ensures state { self.new ≡ state_after self.old result }
     {
-        let outcome = self.outcome();
-        if let Stepped::Retired(line) = &outcome {
-            self.retire(line);
+        let Some(word) = self.memory.word(self.pc) else {
+            return Stepped::Stop(StopCause::FetchOutside);
+        };
+        match decode(word) {
+            Some(instr) => self.execute(word, &instr),
+            None => Stepped::Stop(StopCause::Illegal),
         }
-        outcome
     }
 
-    /// Steps until `n` instructions retired, or one doesn't.
+    /// Steps until `n` instructions retired, or one stops the machine.
     pub fn advance(&mut self, n: u64) -> Advanced
         ensures retired { result.retired ≡ retired_within n self.old }
         ensures reached { after result.retired self.old ≡ Some self.new }
         ensures last { self.new ≡ last_within n self.old }
         ensures stop { result.stop ≡ stop_within n self.old }
-
-        // It ends early without a stop where it comes to an instruction that isn't built yet.
-        ensures unbuilt { ((result.retired < n) × (result.stop ≡ None)) ↔ ComesToUnbuilt n self.old }
     {
         for retired in 0..n {
             match self.step() {
                 Stepped::Retired(_) => {}
-                Stepped::Stop(cause) => return Advanced {
-                    retired,
-                    stop: Some(cause),
-                },
-                Stepped::Unbuilt => return Advanced {
-                    retired,
-                    stop: None,
-                },
+                Stepped::Stop(cause) => {
+                    let stop = Some(cause);
+                    return Advanced { retired, stop };
+                }
             }
         }
         Advanced {
@@ -125,57 +119,156 @@ impl Machine {
         &self.memory
     }
 
-    fn outcome(&self) -> Stepped
-        ensures outcome { result ≡ outcome_of self.now }
-        ensures write { IfRetires result (λ line. IsWrite line.write) }
+    fn execute(&mut self, word: u32, instr: &Instr) -> Stepped
+        requires { NamesRegisters instr.now }
+        ensures outcome { result ≡ outcome_of_instr self.old self.old.pc word instr.now }
+        ensures state { self.new ≡ state_after self.old result }
     {
-        let Some(word) = self.memory.word(self.pc) else {
-            return Stepped::Stop(StopCause::FetchOutside);
-        };
-        let Some(instr) = decode(word) else {
-            return Stepped::Unbuilt;
-        };
         match instr.kind() {
-            Kind::Alu => Stepped::Retired(self.computed(word, &instr)),
-            _ => Stepped::Stop(StopCause::Ecall),
+            Kind::Alu => self.compute(word, instr),
+            Kind::Load => self.load(word, instr),
+            Kind::Store => self.store(word, instr),
+            Kind::Control => self.transfer(word, instr),
+            Kind::Fence => self.retire(word, self.pc.wrapping_add(4), Write::None, None),
+            Kind::Stop => Stepped::Stop(cause_of(instr.row)),
         }
     }
 
-    /// The line of an instruction that computes the value of rd.
-    fn computed(&self, word: u32, instr: &Instr) -> Retire
+    fn compute(&mut self, word: u32, instr: &Instr) -> Stepped
         requires kind { kind_of instr.now ≡ Kind.Alu }
         requires registers { NamesRegisters instr.now }
-        ensures line { result ≡ computed self.now self.now.pc word instr.now }
-        ensures write { IsWrite result.write }
+        ensures outcome { result ≡ outcome_of_instr self.old self.old.pc word instr.now }
+        ensures state { self.new ≡ state_after self.old result }
     {
-        let a = self.registers[instr.rs1 as usize];
-        let b = self.registers[instr.rs2 as usize];
-        let value = alu(instr, a, b, self.pc);
-        Retire {
-            pc: self.pc,
-            word,
-            next: self.pc.wrapping_add(4),
-            write: write_of(instr.target(), value),
+        let (a, b) = self.operands(instr);
+        let write = write_to(instr.target(), alu(instr, a, b, self.pc));
+        self.retire(word, self.pc.wrapping_add(4), write, None)
+    }
+
+    fn load(&mut self, word: u32, instr: &Instr) -> Stepped
+        requires kind { kind_of instr.now ≡ Kind.Load }
+        requires registers { NamesRegisters instr.now }
+        ensures outcome { result ≡ outcome_of_instr self.old self.old.pc word instr.now }
+        ensures state { self.new ≡ state_after self.old result }
+    {
+        let (a, _) = self.operands(instr);
+        let access = access(instr, a);
+        match self.memory.load(access.addr, access.width) {
+            Ok(value) => {
+                let value = extended(access.width, access.signed, value);
+                let write = write_to(instr.target(), value);
+                self.retire(word, self.pc.wrapping_add(4), write, None)
+            }
+            Err(MemFault::Misaligned) => Stepped::Stop(StopCause::LoadMisaligned),
+            Err(MemFault::Outside) => Stepped::Stop(StopCause::LoadOutside),
         }
     }
 
-    fn retire(&mut self, line: &Retire)
-        requires { IsWrite line.now.write }
-        ensures { self.new ≡ taken self.old line.now }
+    fn store(&mut self, word: u32, instr: &Instr) -> Stepped
+        requires kind { kind_of instr.now ≡ Kind.Store }
+        requires registers { NamesRegisters instr.now }
+        ensures outcome { result ≡ outcome_of_instr self.old self.old.pc word instr.now }
+        ensures state { self.new ≡ state_after self.old result }
     {
-        if let Write::One { rd, value } = line.write {
+        let (a, b) = self.operands(instr);
+        let access = access(instr, a);
+        let store = store_of(access.addr, access.width, b);
+        match self.memory.store(store.addr, store.width, store.value) {
+            Ok(()) => self.retire(word, self.pc.wrapping_add(4), Write::None, Some(store)),
+            Err(MemFault::Misaligned) => Stepped::Stop(StopCause::StoreMisaligned),
+            Err(MemFault::Outside) => Stepped::Stop(StopCause::StoreOutside),
+        }
+    }
+
+    fn transfer(&mut self, word: u32, instr: &Instr) -> Stepped
+        requires kind { kind_of instr.now ≡ Kind.Control }
+        requires registers { NamesRegisters instr.now }
+        ensures outcome { result ≡ outcome_of_instr self.old self.old.pc word instr.now }
+        ensures state { self.new ≡ state_after self.old result }
+    {
+        let (a, b) = self.operands(instr);
+        match branch(instr, a, b, self.pc) {
+            Next::Go(next) => {
+                let write = write_to(instr.target(), self.pc.wrapping_add(4));
+                self.retire(word, next, write, None)
+            }
+            Next::Misaligned(_) => Stepped::Stop(StopCause::TargetMisaligned),
+        }
+    }
+
+    /// The values of rs1 and rs2.
+    fn operands(&self, instr: &Instr) -> (u32, u32)
+        requires { NamesRegisters instr.now }
+        ensures { result ≡ (register_of self.now instr.now.rs1, register_of self.now instr.now.rs2) }
+    {
+        (
+            self.registers[instr.rs1 as usize],
+            self.registers[instr.rs2 as usize],
+        )
+    }
+
+    /// Retires the next instruction. Its store is done already.
+    fn retire(&mut self, word: u32, next: u32, write: Write, store: Option<Store>) -> Stepped
+        requires { IsWrite write }
+        ensures line { result ≡ Stepped.Retired (record { pc = self.old.pc; word = word; next = next; write = write; store = store }) }
+        ensures state { self.new ≡ record { pc = next; registers = registers_after self.old.registers write; memory = self.old.memory } }
+    {
+        let line = Retire {
+            pc: self.pc,
+            word,
+            next,
+            write,
+            store,
+        };
+        if let Write::One { rd, value } = write {
             self.registers[rd as usize] = value;
         }
-        self.pc = line.next;
+        self.pc = next;
+        Stepped::Retired(line)
     }
 }
 
-fn write_of(target: Option<u8>, value: u32) -> Write
+fn write_to(target: Option<u8>, value: u32) -> Write
     ensures { result ≡ write_to target value }
 {
     match target {
         Some(rd) => Write::One { rd, value },
         None => Write::None,
+    }
+}
+
+/// A loaded number as a word.
+fn extended(width: u8, signed: bool, value: u32) -> u32
+    requires width { IsWidth width }
+    requires fits { value < 2 ^ (8 * width) }
+    requires word { width ≡ 4 → signed ≡ false }
+    ensures { result ≡ extended width signed value }
+{
+    match (width, signed) {
+        (1, true) => i32::from((value as u8).cast_signed()).cast_unsigned(),
+        (2, true) => i32::from((value as u16).cast_signed()).cast_unsigned(),
+        _ => value,
+    }
+}
+
+fn store_of(addr: u32, width: u8, value: u32) -> Store
+    requires { IsWidth width }
+    ensures { result ≡ store_of addr width value }
+{
+    let value = match width {
+        1 => value & 0xff,
+        2 => value & 0xffff,
+        _ => value,
+    };
+    Store { addr, width, value }
+}
+
+fn cause_of(row: Row) -> StopCause
+    ensures { result ≡ cause_of row }
+{
+    match row {
+        Row::Ebreak => StopCause::Ebreak,
+        _ => StopCause::Ecall,
     }
 }
 
@@ -197,6 +290,7 @@ mod tests {
             word: 0x0050_0093,
             next: 0x104,
             write: Write::One { rd: 1, value: 5 },
+            store: None,
         };
         assert_eq!(rt; machine.step(), Stepped::Retired(line));
         assert_eq!(rt; machine.step(), Stepped::Stop(StopCause::Ecall));

@@ -1,4 +1,4 @@
-ghost use Rattle.std.specs.Prelude.{◌≡◌, ◌≤◌, ◌+◌, ◌-◌, ◌%◌, ◌==◌, ◌^◌, ℕ, List, length, replicate, IfOk, OnOk, OnErr, All};
+ghost use Rattle.std.specs.Prelude.{◌≡◌, ◌≤◌, ◌<◌, ◌+◌, ◌-◌, ◌*◌, ◌%◌, ◌==◌, ◌^◌, ℕ, List, length, replicate, IfOk, OnOk, OnErr, All};
 ghost use Rattle.xif_image.specs.Region.{IsWidth, fault_of, unless, loaded, word_at, overwritten, stored};
 ghost use Rattle.xif_image.specs.Image.{placed, bytes_from, bytes_after, IsWithin};
 
@@ -74,7 +74,8 @@ impl Memory {
     /// the width, and else where a byte lies outside.
     pub fn load(&self, addr: u32, width: u8) -> Result<u32, MemFault>
         requires { IsWidth width }
-        ensures { result ≡ loaded self.now addr width }
+        ensures loaded { result ≡ loaded self.now addr width }
+        ensures fits { IfOk result (λ value. value < 2 ^ (8 * width)) }
     {
         let start = self.start(addr, width)?;
         let bytes = &self.bytes.as_slice()[start..];
