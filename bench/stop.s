@@ -1,0 +1,2 @@
+# The image beside the loop: the machine starts and stops, and no instruction retires.
+        ecall
