@@ -32,6 +32,16 @@ HasPut (ReadFault which) before after text = after ≡ before
 HasPut (TooBig which) before after text = after ≡ before
 HasPut Unbuilt before after text = after ≡ before
 
+-- what becomes of a text that is printed
+abbrev pub IsPrintStatus : Status → Type 0
+IsPrintStatus Done = Unit {0}
+IsPrintStatus (WriteFault which) = Unit {0}
+IsPrintStatus NoMemory = Unit {0}
+IsPrintStatus Usage = ⊥
+IsPrintStatus (ReadFault which) = ⊥
+IsPrintStatus (TooBig which) = ⊥
+IsPrintStatus Unbuilt = ⊥
+
 -- a refusal before anything is written
 abbrev pub IsRefusal : Status → Type 0
 IsRefusal Done = ⊥

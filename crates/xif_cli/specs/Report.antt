@@ -1,9 +1,12 @@
 -- What the in-order commands print.
-use Rattle.std.specs.Prelude.{ℕ, List, [], ◌++◌, ◌-◌, ◌==◌, Option, Some, None, false, length, drop, replicate, if◌then◌else◌}
+use Rattle.std.specs.Prelude.{ℕ, List, [], ◌++◌, ◌-◌, ◌*◌, ◌+◌, ◌/◌, ◌==◌, Option, Some, None, false, length, take, drop, replicate, if◌then◌else◌}
 use Rattle.std.specs.Fmt.{decimal, digits}
-use Rattle.std.specs.List.{enumerate_from, flat_map}
+use Rattle.std.specs.List.{enumerate_from, range_with_len, flat_map}
+use Rattle.std.specs.Int.{w32, from_le_bytes}
 use Rattle.inorder_machine.specs.declared.stop.StopCause.{StopCause}
-use Rattle.inorder_machine.specs.declared.stop.StopCause.TheVariants.{Ecall, FetchOutside}
+use Rattle.inorder_machine.specs.declared.stop.StopCause.TheVariants.{Ecall, Ebreak, Illegal, FetchOutside, LoadOutside, StoreOutside, LoadMisaligned, StoreMisaligned, TargetMisaligned}
+use Rattle.inorder_machine.specs.Machine.{State}
+use Rattle.xif_image.specs.Region.{Region}
 use lib.Chars.{codes}
 
 -- eight lower-case hexadecimal digits after 0x
@@ -16,7 +19,14 @@ hex_word n =
 abbrev pub end_word : Option StopCause → List ℕ
 end_word None = codes "budget"
 end_word (Some Ecall) = codes "ecall"
+end_word (Some Ebreak) = codes "ebreak"
+end_word (Some Illegal) = codes "illegal"
 end_word (Some FetchOutside) = codes "fetch-outside"
+end_word (Some LoadOutside) = codes "load-outside"
+end_word (Some StoreOutside) = codes "store-outside"
+end_word (Some LoadMisaligned) = codes "load-misaligned"
+end_word (Some StoreMisaligned) = codes "store-misaligned"
+end_word (Some TargetMisaligned) = codes "target-misaligned"
 
 -- how the run ended, the address of the next instruction to retire, and how many retired
 abbrev pub outcome_text : Option StopCause → ℕ → ℕ → List ℕ
@@ -32,6 +42,21 @@ register_line number value =
 abbrev pub register_lines : List ℕ → List ℕ
 register_lines registers = flat_map (λ r. register_line r.0 r.1) (enumerate_from 1 (drop 1 registers))
 
--- the report of the in-order commands
-abbrev pub report_of : Option StopCause → ℕ → ℕ → List ℕ → List ℕ
-report_of stop pc retired registers = outcome_text stop pc retired ++ codes "\n" ++ register_lines registers
+-- word i of these bytes, the lowest byte first; bytes past their end count as 0
+abbrev pub word_of : List ℕ → ℕ → ℕ
+word_of bytes i = from_le_bytes w32 (take 4 (drop (4 * i) bytes))
+
+-- the line of a word of memory; one that is as it was before has none
+abbrev pub memory_line : ℕ → ℕ → ℕ → List ℕ
+memory_line address before after =
+    if before == after then [] else codes "m " ++ hex_word address ++ codes "=" ++ hex_word after ++ codes "\n"
+
+-- the lines of the words of a memory, from its base on
+abbrev pub memory_lines : List ℕ → Region → List ℕ
+memory_lines before after =
+    flat_map (λ i. memory_line (after.base + 4 * i) (word_of before i) (word_of after.bytes i)) (range_with_len 0 ((length after.bytes + 3) / 4))
+
+-- the report of a run that ended by this stop, or else by its budget, after so many retirements, in this state; before are the bytes of the memory at its start
+abbrev pub report_of : Option StopCause → ℕ → State → List ℕ → List ℕ
+report_of stop retired s before =
+    outcome_text stop s.pc retired ++ codes "\n" ++ register_lines s.registers ++ memory_lines before s.memory

@@ -9,10 +9,10 @@ abbrev pub raw_start : List ℕ → State
 raw_start image = record { pc = 0; registers = replicate 32 0; memory = record { base = 0; bytes = image } }
 
 -- the report of a run of at most so many retirements
-abbrev pub run_report : State → ℕ → List ℕ
+unfoldable pub run_report : State → ℕ → List ℕ
 run_report start budget =
-    report_of (stop_within budget start) (last_within budget start).pc (retired_within budget start) (last_within budget start).registers
+    report_of (stop_within budget start) (retired_within budget start) (last_within budget start) start.memory.bytes
 
 -- what `raw` prints
-abbrev pub raw_report : List ℕ → ℕ → List ℕ
+unfoldable pub raw_report : List ℕ → ℕ → List ℕ
 raw_report image count = run_report (raw_start image) count

@@ -1,11 +1,10 @@
 //! The whole program, but for the words, the files and the outputs of the system.
 ghost use Rattle.std.specs.Prelude.{◌≡◌, ◌≢◌, ◌⊎◌, ◌≤◌, ◌<◌, ◌↔◌, ℕ, List, length};
-ghost use Rattle.inorder_machine.specs.After.{ComesToUnbuilt};
 ghost use Rattle.xif_base.specs.Faults.{Rose};
 ghost use Rattle.xif_base.specs.Files.{IsMissing, HasBytes};
 ghost use Rattle.xif_base.specs.Output.{grown};
 ghost use Rattle.xif_cli.specs.Answers.{IsNoCommand, IsOtherCommand, IfRaw, HasPut, IsRefusal};
-ghost use Rattle.xif_cli.specs.Run.{raw_start, raw_report};
+ghost use Rattle.xif_cli.specs.Run.{raw_report};
 ghost use Rattle.xif_cli.specs.declared.raw.TheConstants.{RAW_LIMIT};
 
 use crate::raw::run_raw;
@@ -19,22 +18,11 @@ use xif_base::{Out, Shelf, Which};
 pub fn xif<S: Shelf, O: Out>(alloc: Global, words: &[String], shelf: &mut S, out: &mut O) -> Status
     // What the words ask for. Only `raw` is built yet.
     ensures usage { (result ≡ Status.Usage) ↔ IsNoCommand words.now }
-    ensures other { IsOtherCommand words.now → result ≡ Status.Unbuilt }
+    ensures unbuilt { (result ≡ Status.Unbuilt) ↔ IsOtherCommand words.now }
 
     // `raw` prints the report of the in-order machine.
     ensures done { result ≡ Status.Done → IfRaw words.now (λ image count. (bytes : List ℕ) →
         HasBytes (S.files shelf.old) image bytes → O.put_bytes out.new ≡ grown (O.put_bytes out.old) (raw_report bytes count)) }
-    ensures done_built { result ≡ Status.Done → IfRaw words.now (λ image count. (bytes : List ℕ) →
-        HasBytes (S.files shelf.old) image bytes → ¬ ComesToUnbuilt count (raw_start bytes)) }
-
-    // It isn't built yet for a program that comes to other instructions.
-    ensures unbuilt { result ≡ Status.Unbuilt → IfRaw words.now (λ image count. (bytes : List ℕ) →
-        HasBytes (S.files shelf.old) image bytes → ComesToUnbuilt count (raw_start bytes)) }
-
-    ensures comes_to_unbuilt { IfRaw words.now (λ image count. (bytes : List ℕ) →
-        HasBytes (S.files shelf.old) image bytes → length bytes ≤ RAW_LIMIT → ComesToUnbuilt count (raw_start bytes) →
-        (result ≡ Status.Unbuilt) ⊎ (result ≡ Status.NoMemory)
-        ⊎ Rose (S.fetch_faults shelf.old) (S.fetch_faults shelf.new)) }
 
     // A fault is told of a read or a write that failed, or of a file that isn't there.
     ensures read_fault { (w : Which) → result ≡ Status.ReadFault w → IfRaw words.now (λ image count.
@@ -55,7 +43,7 @@ pub fn xif<S: Shelf, O: Out>(alloc: Global, words: &[String], shelf: &mut S, out
     // No other refusal comes of a file within its limit.
     ensures complete { IfRaw words.now (λ image count. (bytes : List ℕ) →
         HasBytes (S.files shelf.old) image bytes → length bytes ≤ RAW_LIMIT →
-        (result ≡ Status.Done) ⊎ (result ≡ Status.Unbuilt) ⊎ (result ≡ Status.NoMemory)
+        (result ≡ Status.Done) ⊎ (result ≡ Status.NoMemory)
         ⊎ Rose (S.fetch_faults shelf.old) (S.fetch_faults shelf.new) ⊎ Rose (O.faults out.old) (O.faults out.new)) }
 
     // What stands afterwards: the files as they were; of the report all, a front or nothing.

@@ -1,12 +1,11 @@
 //! The command `raw IMAGE COUNT`.
-ghost use Rattle.std.specs.Prelude.{◌≡◌, ◌≢◌, ◌⊎◌, ◌≤◌, ◌<◌, ℕ, List, length, IfOk, IfSome, MatchOption};
+ghost use Rattle.std.specs.Prelude.{◌≡◌, ◌≢◌, ◌⊎◌, ◌≤◌, ◌<◌, ℕ, List, length, IfOk};
 ghost use Rattle.std.specs.String.{string_bytes};
-ghost use Rattle.inorder_machine.specs.After.{ComesToUnbuilt};
 ghost use Rattle.xif_base.specs.Faults.{Rose};
 ghost use Rattle.xif_base.specs.Files.{IsMissing, HasBytes};
 ghost use Rattle.xif_base.specs.Output.{grown};
-ghost use Rattle.xif_cli.specs.Answers.{HasPut, IsRefusal};
-ghost use Rattle.xif_cli.specs.Run.{raw_start, raw_report};
+ghost use Rattle.xif_cli.specs.Answers.{HasPut, IsRefusal, IsPrintStatus};
+ghost use Rattle.xif_cli.specs.Run.{raw_report};
 
 use crate::run::{raw_machine, run_report};
 use crate::status::Status;
@@ -24,13 +23,10 @@ pub(crate) fn run_raw<S: Shelf, O: Out>(
     shelf: &mut S,
     out: &mut O,
 ) -> Status
-    ensures no_usage { result ≢ Status.Usage }
+    ensures built { result ≢ Status.Unbuilt }
+    ensures form { result ≢ Status.Usage }
     ensures done { result ≡ Status.Done → (bytes : List ℕ) → HasBytes (S.files shelf.old) image.now bytes →
         O.put_bytes out.new ≡ grown (O.put_bytes out.old) (raw_report bytes count) }
-    ensures done_built { result ≡ Status.Done → (bytes : List ℕ) → HasBytes (S.files shelf.old) image.now bytes →
-        ¬ ComesToUnbuilt count (raw_start bytes) }
-    ensures unbuilt { result ≡ Status.Unbuilt → (bytes : List ℕ) → HasBytes (S.files shelf.old) image.now bytes →
-        ComesToUnbuilt count (raw_start bytes) }
     ensures read_fault { (w : Which) → result ≡ Status.ReadFault w → (w ≡ Which.Image)
         × (Rose (S.fetch_faults shelf.old) (S.fetch_faults shelf.new) ⊎ IsMissing (S.files shelf.old) image.now) }
     ensures missing { IsMissing (S.files shelf.old) image.now →
@@ -42,11 +38,8 @@ pub(crate) fn run_raw<S: Shelf, O: Out>(
         ⊎ Rose (S.fetch_faults shelf.old) (S.fetch_faults shelf.new) }
     ensures write_fault { (w : Which) → result ≡ Status.WriteFault w → (w ≡ Which.Output) × Rose (O.faults out.old) (O.faults out.new) }
     ensures complete { (bytes : List ℕ) → HasBytes (S.files shelf.old) image.now bytes → length bytes ≤ RAW_LIMIT →
-        (result ≡ Status.Done) ⊎ (result ≡ Status.Unbuilt) ⊎ (result ≡ Status.NoMemory)
+        (result ≡ Status.Done) ⊎ (result ≡ Status.NoMemory)
         ⊎ Rose (S.fetch_faults shelf.old) (S.fetch_faults shelf.new) ⊎ Rose (O.faults out.old) (O.faults out.new) }
-    ensures comes_to_unbuilt { (bytes : List ℕ) → HasBytes (S.files shelf.old) image.now bytes → length bytes ≤ RAW_LIMIT →
-        ComesToUnbuilt count (raw_start bytes) → (result ≡ Status.Unbuilt) ⊎ (result ≡ Status.NoMemory)
-        ⊎ Rose (S.fetch_faults shelf.old) (S.fetch_faults shelf.new) }
     ensures put { (bytes : List ℕ) → HasBytes (S.files shelf.old) image.now bytes →
         HasPut result (O.put_bytes out.old) (O.put_bytes out.new) (raw_report bytes count) }
     ensures refusal { IsRefusal result → out.new ≡ out.old }
@@ -71,36 +64,28 @@ pub(crate) fn run_raw<S: Shelf, O: Out>(
 // Runs an image, and prints the report.
 fn print_run<O: Out>(alloc: Global, image: &[u8], count: u32, out: &mut O) -> Status
     requires { length image.now ≤ RAW_LIMIT }
-    ensures no_usage { result ≢ Status.Usage }
-    ensures no_read_fault { (w : Which) → result ≢ Status.ReadFault w }
-    ensures no_too_big { (w : Which) → result ≢ Status.TooBig w }
-    ensures done { result ≡ Status.Done → ¬ ComesToUnbuilt count (raw_start image.now) }
-    ensures unbuilt { result ≡ Status.Unbuilt → ComesToUnbuilt count (raw_start image.now) }
-    ensures comes_to_unbuilt { ComesToUnbuilt count (raw_start image.now) → (result ≡ Status.Unbuilt) ⊎ (result ≡ Status.NoMemory) }
+    ensures status { IsPrintStatus result }
     ensures write_fault { (w : Which) → result ≡ Status.WriteFault w → (w ≡ Which.Output) × Rose (O.faults out.old) (O.faults out.new) }
     ensures put { HasPut result (O.put_bytes out.old) (O.put_bytes out.new) (raw_report image.now count) }
-    ensures refusal { IsRefusal result → out.new ≡ out.old }
     ensures puts { O.faults out.old ≤ O.faults out.new }
     ensures no_put_fault { O.faultless out.old → O.faults out.new ≡ O.faults out.old }
     ensures writes { O.faultless out.old → (w : Which) → result ≢ Status.WriteFault w }
 {
     match report_of_image(alloc, image, count) {
-        Ok(Some(text)) => match put_all(out, text.as_bytes()) {
+        Ok(text) => match put_all(out, text.as_bytes()) {
             Ok(()) => Status::Done,
             Err(WriteFail::Failed) => Status::WriteFault(Which::Output),
             Err(WriteFail::NoMemory) => Status::NoMemory,
         },
-        Ok(None) => Status::Unbuilt,
         Err(NoMemory) => Status::NoMemory,
     }
 }
 
-// The report of a run of an image: none where it comes to an instruction that isn't built yet.
-fn report_of_image(alloc: Global, image: &[u8], count: u32) -> Result<Option<String>, NoMemory>
+// The report of a run of an image.
+#[tactic(auto, unfolding(crate::specs::Run::raw_report))]
+fn report_of_image(alloc: Global, image: &[u8], count: u32) -> Result<String, NoMemory>
     requires { length image.now ≤ RAW_LIMIT }
-    ensures report { IfOk result (λ text. IfSome text (λ text. string_bytes text ≡ raw_report image.now count)) }
-    ensures built { IfOk result (λ text. MatchOption text (ComesToUnbuilt count (raw_start image.now))
-        (λ _. ¬ ComesToUnbuilt count (raw_start image.now))) }
+    ensures { IfOk result (λ text. string_bytes text ≡ raw_report image.now count) }
 {
     let machine = raw_machine(alloc, image)?;
     run_report(alloc, machine, u64::from(count))

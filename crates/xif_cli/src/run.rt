@@ -1,7 +1,6 @@
 //! Runs of the in-order machine, and what is printed of them.
-ghost use Rattle.std.specs.Prelude.{◌≡◌, ◌≤◌, ◌^◌, ◌-◌, length, IfOk, IfSome, MatchOption};
+ghost use Rattle.std.specs.Prelude.{◌≡◌, ◌≤◌, ◌^◌, ◌-◌, length, IfOk};
 ghost use Rattle.std.specs.String.{string_bytes};
-ghost use Rattle.inorder_machine.specs.After.{ComesToUnbuilt};
 ghost use Rattle.xif_cli.specs.Run.{raw_start, run_report};
 
 use crate::report::report;
@@ -25,26 +24,16 @@ pub(crate) fn raw_machine(alloc: Global, image: &[u8]) -> Result<Machine, NoMemo
     Ok(Machine::new(memory, 0))
 }
 
-/// The report of a run of at most `budget` retirements: none where it comes to an instruction that
-/// isn't built yet.
+/// The report of a run of at most `budget` retirements.
+#[tactic(auto, unfolding(crate::specs::Run::run_report))]
 pub(crate) fn run_report(
     alloc: Global,
     mut machine: Machine,
     budget: u64,
-) -> Result<Option<String>, NoMemory>
-    ensures report { IfOk result (λ text. IfSome text (λ text. string_bytes text ≡ run_report machine budget)) }
-    ensures built { IfOk result (λ text. MatchOption text (ComesToUnbuilt budget machine) (λ _. ¬ ComesToUnbuilt budget machine)) }
+) -> Result<String, NoMemory>
+    ensures { IfOk result (λ text. string_bytes text ≡ run_report machine budget) }
 {
+    let before = Vec::from_slice(alloc, machine.memory().bytes())?;
     let run = machine.advance(budget);
-    if run.retired < budget && run.stop.is_none() {
-        return Ok(None);
-    }
-    let text = report(
-        alloc,
-        run.stop,
-        machine.pc(),
-        run.retired,
-        machine.registers(),
-    )?;
-    Ok(Some(text))
+    Ok(report(alloc, run.stop, run.retired, &machine, &before)?)
 }

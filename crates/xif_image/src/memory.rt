@@ -70,6 +70,14 @@ impl Memory {
         self.bytes.len() as u32
     }
 
+    /// The bytes, from the base on.
+    pub fn bytes(&self) -> &[u8]
+        ensures bytes { result.now ≡ self.now.bytes }
+        ensures room { self.now.base + length self.now.bytes ≤ 2 ^ 32 }
+    {
+        self.bytes.as_slice()
+    }
+
     /// The number of `width` bytes at an address. It is refused where the address is no multiple of
     /// the width, and else where a byte lies outside.
     pub fn load(&self, addr: u32, width: u8) -> Result<u32, MemFault>

@@ -6,20 +6,54 @@ use std::test::Fail;
 use xif_base::{MemOut, MemShelf};
 
 // addi x1, x0, 5; ecall
-const FIVE: &[u8] = &[0x93, 0x00, 0x50, 0x00, 0x73, 0x00, 0x00, 0x00];
+const FIVE: &[u32] = &[0x0050_0093, 0x0000_0073];
 
 // addi x1, x0, -1; addi x1, x1, 1; addi x31, x1, 2047
-const WRAPS: &[u8] = &[
-    0x93, 0x00, 0xf0, 0xff, 0x93, 0x80, 0x10, 0x00, 0x93, 0x8f, 0xf0, 0x7f,
+const WRAPS: &[u32] = &[0xfff0_0093, 0x0010_8093, 0x7ff0_8f93];
+
+// The quotients and remainders of -2^31 by -1 and of 7 by 0.
+const DIVIDES: &[u32] = &[
+    0x8000_00b7,
+    0xfff0_0113,
+    0x0220_c1b3,
+    0x0220_e233,
+    0x0070_0293,
+    0x0202_c333,
+    0x0202_e3b3,
+    0x0000_0073,
 ];
 
-// addi x1, x0, 5; lui x1, 0x80000, which isn't built yet
-const LATER: &[u8] = &[0x93, 0x00, 0x50, 0x00, 0xb7, 0x00, 0x00, 0x80];
+// A jump to an odd address, and a branch that isn't taken to one that is no multiple of 4.
+const JUMPS: &[u32] = &[
+    0x00d0_0093,
+    0x0000_8167,
+    0x0000_0073,
+    0x0000_1163,
+    0x0000_0073,
+];
+
+// The same with the branch taken.
+const TAKEN: &[u32] = &[
+    0x00d0_0093,
+    0x0000_8167,
+    0x0000_0073,
+    0x0000_0163,
+    0x0000_0073,
+];
+
+// A store over the first word, two loads of a byte and a halfword, and a halfword stored at 1.
+const STORES: &[u32] = &[
+    0xfff0_0093,
+    0x0010_2023,
+    0x0030_4103,
+    0x0020_1183,
+    0x0010_10a3,
+];
 
 #[derive(Clone, Copy)]
 struct Case {
     words: &'static str,
-    image: &'static [u8],
+    image: &'static [u32],
     failing_fetches: &'static [u64],
     failing_puts: &'static [u64],
     status: Status,
@@ -29,7 +63,7 @@ struct Case {
 // A case in which no call fails.
 const fn plain(
     words: &'static str,
-    image: &'static [u8],
+    image: &'static [u32],
     status: Status,
     output: &'static str,
 ) -> Case {
@@ -51,56 +85,120 @@ fn split(alloc: Global, line: &str) -> Result<Vec<String>, AllocError> {
     Ok(words)
 }
 
+fn bytes_of(alloc: Global, words: &[u32]) -> Result<Vec<u8>, AllocError> {
+    let mut bytes = Vec::new(alloc);
+    for word in words {
+        bytes.extend_from_slice(&word.to_le_bytes())?;
+    }
+    Ok(bytes)
+}
+
 fn check(rt: &(impl Abort + AllocGlobal), case: &Case) -> Result<(), Fail> {
+    let image = bytes_of(rt.alloc(), case.image)?;
     let mut shelf = MemShelf::new(rt.alloc(), 5, case.failing_fetches)?;
-    shelf.insert("p.bin", case.image)?;
+    shelf.insert("p.bin", &image)?;
     let mut out = MemOut::new(rt.alloc(), 7, case.failing_puts)?;
     let words = split(rt.alloc(), case.words)?;
     let status = xif(rt.alloc(), &words, &mut shelf, &mut out);
     assert_eq!(rt; status, case.status, "at {}", case.words);
     assert_eq!(rt; out.bytes(), case.output.as_bytes(), "at {}", case.words);
-    assert_eq!(rt; shelf.bytes("p.bin"), Some(case.image), "at {}", case.words);
+    assert_eq!(rt;
+        shelf.bytes("p.bin"),
+        Some(image.as_slice()),
+        "at {}",
+        case.words
+    );
     Ok(())
 }
 
 #[test]
 fn runs_images(rt: HostRuntime) -> Result<(), Fail> {
+    for (words, image, output) in [
+        (
+            "raw p.bin 10",
+            FIVE,
+            "end=ecall pc=0x00000004 retired=1\nx1=0x00000005\n",
+        ),
+        (
+            "raw p.bin 1",
+            FIVE,
+            "end=budget pc=0x00000004 retired=1\nx1=0x00000005\n",
+        ),
+        (
+            "raw p.bin 10",
+            &[],
+            "end=fetch-outside pc=0x00000000 retired=0\n",
+        ),
+        (
+            "raw p.bin 1000000",
+            WRAPS,
+            "end=fetch-outside pc=0x0000000c retired=3\nx31=0x000007ff\n",
+        ),
+        (
+            "raw p.bin 10",
+            DIVIDES,
+            "end=ecall pc=0x0000001c retired=7\nx1=0x80000000\nx2=0xffffffff\nx3=0x80000000\n\
+            x5=0x00000007\nx6=0xffffffff\nx7=0x00000007\n",
+        ),
+        (
+            "raw p.bin 10",
+            JUMPS,
+            "end=ecall pc=0x00000010 retired=3\nx1=0x0000000d\nx2=0x00000008\n",
+        ),
+        (
+            "raw p.bin 10",
+            TAKEN,
+            "end=target-misaligned pc=0x0000000c retired=2\nx1=0x0000000d\nx2=0x00000008\n",
+        ),
+        (
+            "raw p.bin 10",
+            STORES,
+            "end=store-misaligned pc=0x00000010 retired=4\nx1=0xffffffff\nx2=0x000000ff\n\
+            x3=0xffffffff\nm 0x00000000=0xffffffff\n",
+        ),
+        (
+            "raw p.bin 1",
+            &[0x0010_0073],
+            "end=ebreak pc=0x00000000 retired=0\n",
+        ),
+        (
+            "raw p.bin 1",
+            &[0x0000_0000],
+            "end=illegal pc=0x00000000 retired=0\n",
+        ),
+        (
+            "raw p.bin 1",
+            &[0x4000_2083],
+            "end=load-outside pc=0x00000000 retired=0\n",
+        ),
+        (
+            "raw p.bin 1",
+            &[0x4000_2023],
+            "end=store-outside pc=0x00000000 retired=0\n",
+        ),
+        (
+            "raw p.bin 1",
+            &[0x0010_1083],
+            "end=load-misaligned pc=0x00000000 retired=0\n",
+        ),
+        (
+            "raw p.bin 2",
+            &[0x0000_000f],
+            "end=fetch-outside pc=0x00000004 retired=1\n",
+        ),
+    ] {
+        check(&rt, &plain(words, image, Status::Done, output))?;
+    }
+    Ok(())
+}
+
+#[test]
+fn refuses_with_a_cause(rt: HostRuntime) -> Result<(), Fail> {
     const READ: Status = Status::ReadFault(Which::Image);
     const WRITE: Status = Status::WriteFault(Which::Output);
     const REPORT: &str = "end=ecall pc=0x00000004 retired=1\nx1=0x00000005\n";
+    let run = "raw p.bin 10";
     let cases = [
-        plain("raw p.bin 10", FIVE, Status::Done, REPORT),
-        plain(
-            "raw p.bin 10",
-            b"",
-            Status::Done,
-            "end=fetch-outside pc=0x00000000 retired=0\n",
-        ),
-        plain(
-            "raw p.bin 1",
-            FIVE,
-            Status::Done,
-            "end=budget pc=0x00000004 retired=1\nx1=0x00000005\n",
-        ),
-        plain(
-            "raw p.bin 1000000",
-            WRAPS,
-            Status::Done,
-            "end=fetch-outside pc=0x0000000c retired=3\nx31=0x000007ff\n",
-        ),
-        plain(
-            "raw p.bin 1",
-            LATER,
-            Status::Done,
-            "end=budget pc=0x00000004 retired=1\nx1=0x00000005\n",
-        ),
-        plain("raw p.bin 2", LATER, Status::Unbuilt, ""),
-        plain(
-            "raw p.bin 1",
-            &[0x73, 0x00, 0x00],
-            Status::Done,
-            "end=fetch-outside pc=0x00000000 retired=0\n",
-        ),
         plain("raw p.bin", FIVE, Status::Usage, ""),
         plain("raw p.bin 010", FIVE, Status::Usage, ""),
         plain("walk p.bin", FIVE, Status::Usage, ""),
@@ -108,23 +206,23 @@ fn runs_images(rt: HostRuntime) -> Result<(), Fail> {
         plain("raw q.bin 10", FIVE, READ, ""),
         Case {
             failing_fetches: &[0],
-            ..plain("raw p.bin 10", FIVE, READ, "")
+            ..plain(run, FIVE, READ, "")
         },
         Case {
             failing_fetches: &[2],
-            ..plain("raw p.bin 10", FIVE, READ, "")
+            ..plain(run, FIVE, READ, "")
         },
         Case {
             failing_fetches: &[3],
-            ..plain("raw p.bin 10", FIVE, Status::Done, REPORT)
+            ..plain(run, FIVE, Status::Done, REPORT)
         },
         Case {
             failing_puts: &[0],
-            ..plain("raw p.bin 10", FIVE, WRITE, "")
+            ..plain(run, FIVE, WRITE, "")
         },
         Case {
             failing_puts: &[2],
-            ..plain("raw p.bin 10", FIVE, WRITE, "end=ecall pc=0")
+            ..plain(run, FIVE, WRITE, "end=ecall pc=0")
         },
     ];
     for case in &cases {
@@ -137,14 +235,14 @@ fn runs_images(rt: HostRuntime) -> Result<(), Fail> {
 fn takes_an_image_up_to_the_limit(rt: HostRuntime) -> Result<(), Fail> {
     let words = split(rt.alloc(), "raw p.bin 1")?;
     for (length, wanted) in [
-        (65_536, Status::Unbuilt),
+        (65_536, Status::Done),
         (65_537, Status::TooBig(Which::Image)),
     ] {
         let mut shelf = MemShelf::new(rt.alloc(), 65_536, &[])?;
         shelf.insert("p.bin", &vec![in rt.alloc(); 0; length]?)?;
         let mut out = MemOut::new(rt.alloc(), 7, &[])?;
         assert_eq!(rt; xif(rt.alloc(), &words, &mut shelf, &mut out), wanted);
-        assert!(rt; out.bytes().is_empty());
+        assert_eq!(rt; out.bytes().is_empty(), wanted != Status::Done);
     }
     Ok(())
 }

@@ -14,21 +14,6 @@ pub returns-in-Some-Raw-clause-done : goal.returns-in-Some-Raw-clause-done
 returns-in-Some-Raw-clause-done g c = λ done.
     on_raw _ c.args.words.now c.in-Some-Raw.image.now c.in-Some-Raw.count (c.run_raw.ensures.done done) (λ form is. rw c.in-Some-Raw.field-0-is at (c.in-Some-Raw.ensures.only form is))
 
-pub returns-in-Some-Raw-clause-done_built : goal.returns-in-Some-Raw-clause-done_built
-returns-in-Some-Raw-clause-done_built g c = λ done.
-    on_raw _ c.args.words.now c.in-Some-Raw.image.now c.in-Some-Raw.count (c.run_raw.ensures.done_built done) (λ form is. rw c.in-Some-Raw.field-0-is at (c.in-Some-Raw.ensures.only form is))
-
-pub returns-in-Some-Raw-clause-unbuilt : goal.returns-in-Some-Raw-clause-unbuilt
-returns-in-Some-Raw-clause-unbuilt g c = λ unbuilt.
-    on_raw _ c.args.words.now c.in-Some-Raw.image.now c.in-Some-Raw.count (c.run_raw.ensures.unbuilt unbuilt) (λ form is. rw c.in-Some-Raw.field-0-is at (c.in-Some-Raw.ensures.only form is))
-
 pub returns-in-Some-Raw-clause-put : goal.returns-in-Some-Raw-clause-put
 returns-in-Some-Raw-clause-put g c =
     on_raw _ c.args.words.now c.in-Some-Raw.image.now c.in-Some-Raw.count c.run_raw.ensures.put (λ form is. rw c.in-Some-Raw.field-0-is at (c.in-Some-Raw.ensures.only form is))
-
-pub returns-in-None-clause-comes_to_unbuilt : goal.returns-in-None-clause-comes_to_unbuilt
-returns-in-None-clause-comes_to_unbuilt g c = no_raw _ c.args.words.now c.in-None.ensures.only
-
-pub returns-in-Some-Raw-clause-comes_to_unbuilt : goal.returns-in-Some-Raw-clause-comes_to_unbuilt
-returns-in-Some-Raw-clause-comes_to_unbuilt g c =
-    on_raw _ c.args.words.now c.in-Some-Raw.image.now c.in-Some-Raw.count c.run_raw.ensures.comes_to_unbuilt (λ form is. rw c.in-Some-Raw.field-0-is at (c.in-Some-Raw.ensures.only form is))
