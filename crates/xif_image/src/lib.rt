@@ -7,6 +7,7 @@
 
 mod image;
 mod memory;
+mod text;
 
 pub use image::{ByteAt, Image, ImageFault};
 pub use memory::{MemFault, Memory};
