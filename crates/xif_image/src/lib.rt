@@ -7,6 +7,8 @@
 
 mod image;
 mod memory;
+#[cfg(test)]
+mod tests;
 mod text;
 
 pub use image::{ByteAt, Image, ImageFault};
