@@ -1,55 +1,66 @@
 // Each public call on its happy path, and the texts of an image.
+ghost use Rattle.std.specs.Prelude.{◌≤◌, ◌+◌, ◌^◌};
+
 use super::*;
+use std::alloc::Global;
+use std::process::Abort;
 use std::test::Fail;
 
-// After the stores 0x01020304 lies at 4 of a memory from 0 on, and 0x8899 at its last halfword.
+const LOADS: [(u32, u8, Result<u32, MemFault>); 12] = [
+    (0, 4, Ok(0x77)),
+    (4, 4, Ok(0x0102_0304)),
+    (4, 1, Ok(4)),
+    (7, 1, Ok(1)),
+    (4, 2, Ok(0x0304)),
+    (6, 2, Ok(0x0102)),
+    (2, 4, Err(MemFault::Misaligned)),
+    (7, 2, Err(MemFault::Misaligned)),
+    (8, 1, Err(MemFault::Outside)),
+    (8, 4, Err(MemFault::Outside)),
+    (0xffff_fffc, 4, Err(MemFault::Outside)),
+    (0xffff_fffe, 4, Err(MemFault::Misaligned)),
+];
+
+const STORES: [(u32, u8, u32, Result<(), MemFault>); 4] = [
+    (4, 4, 0x0102_0304, Ok(())),
+    (0, 1, 0xffff_ff77, Ok(())),
+    (3, 2, 0x5555, Err(MemFault::Misaligned)),
+    (8, 4, 0x5555, Err(MemFault::Outside)),
+];
+
+fn stores_are(
+    rt: &impl Abort,
+    memory: &mut Memory,
+    stores: &[(u32, u8, u32, Result<(), MemFault>)],
+) {
+    for (at, width, value, want) in stores {
+        assert!(rt; *width == 1 || *width == 2 || *width == 4);
+        let addr = memory.base().wrapping_add(*at);
+        assert_eq!(rt;
+            memory.store(addr, *width, *value),
+            *want,
+            "{width} at {at}"
+        );
+    }
+}
+
+fn loads_are(rt: &impl Abort, memory: &Memory, loads: &[(u32, u8, Result<u32, MemFault>)]) {
+    for (at, width, want) in loads {
+        assert!(rt; *width == 1 || *width == 2 || *width == 4);
+        let addr = memory.base().wrapping_add(*at);
+        assert_eq!(rt; memory.load(addr, *width), *want, "{width} at {at}");
+    }
+}
+
 #[test]
 fn a_memory_is_little_endian_and_refuses_what_lies_outside(rt: HostRuntime) -> Result<(), Fail> {
     for base in [0, 0xffff_fff8] {
         let mut memory = Memory::new(rt.alloc(), base, 8)?;
-        assert_eq!(rt; (memory.base(), memory.size()), (base, 8));
-        assert_eq!(rt; memory.store(base + 4, 4, 0x0102_0304), Ok(()));
-        assert_eq!(rt;
-            memory.store(base + 3, 2, 0x5555),
-            Err(MemFault::Misaligned)
-        );
-        assert_eq!(rt;
-            memory.store(base.wrapping_add(8), 4, 0x5555),
-            Err(MemFault::Outside)
-        );
-        assert_eq!(rt; memory.store(base, 1, 0xffff_ff77), Ok(()));
-        let loads: [(u32, u8, Result<u32, MemFault>); 12] = [
-            (0, 4, Ok(0x77)),
-            (4, 4, Ok(0x0102_0304)),
-            (4, 1, Ok(4)),
-            (7, 1, Ok(1)),
-            (4, 2, Ok(0x0304)),
-            (6, 2, Ok(0x0102)),
-            (2, 4, Err(MemFault::Misaligned)),
-            (7, 2, Err(MemFault::Misaligned)),
-            (8, 1, Err(MemFault::Outside)),
-            (8, 4, Err(MemFault::Outside)),
-            (0xffff_fffc, 4, Err(MemFault::Outside)),
-            (0xffff_fffe, 4, Err(MemFault::Misaligned)),
-        ];
-        for (at, width, want) in loads {
-            assert_eq!(rt;
-                memory.load(base.wrapping_add(at), width),
-                want,
-                "{width} at {at}"
-            );
-        }
+        stores_are(&rt, &mut memory, &STORES);
         let copy = memory.copy(rt.alloc())?;
-        assert_eq!(rt; memory.store(base + 4, 4, 0), Ok(()));
+        stores_are(&rt, &mut memory, &[(4, 4, 0, Ok(()))]);
+        loads_are(&rt, &copy, &LOADS);
         assert_eq!(rt; (copy.base(), copy.size()), (base, 8));
-        for (at, want) in [
-            (0, Some(0x77)),
-            (4, Some(0x0102_0304)),
-            (5, None),
-            (8, None),
-        ] {
-            assert_eq!(rt; copy.word(base.wrapping_add(at)), want, "word at {at}");
-        }
     }
     Ok(())
 }
@@ -77,55 +88,66 @@ fn raw_bytes_stand_in_a_row(rt: HostRuntime) -> Result<(), Fail> {
     Ok(())
 }
 
-#[test]
-fn a_text_says_bytes_and_addresses(rt: HostRuntime) -> Result<(), Fail> {
-    let bad = |at| Err(ImageFault::BadToken { at });
-    let outside = |at| Err(ImageFault::Outside { at });
-    let cases: [(&str, u32, u32, Result<&[(u32, u8)], ImageFault>); 25] = [
-        ("@0 1", 0, 16, bad(3)),
-        ("0001", 0, 16, bad(0)),
-        ("@10 00", 0, 16, outside(4)),
-        ("/* x", 0, 16, bad(0)),
-        ("// a\n", 0, 16, Err(ImageFault::Empty)),
-        ("00/*c*/01", 0, 16, Ok(&[(0, 0), (1, 1)])),
-        ("", 0, 16, Err(ImageFault::Empty)),
-        ("@f", 0, 16, Err(ImageFault::Empty)),
-        ("/*/", 0, 16, bad(0)),
-        ("00/1", 0, 16, bad(0)),
-        ("00@0", 0, 16, bad(0)),
-        ("@ 00", 0, 16, bad(0)),
-        ("@000000001 00", 0, 16, bad(0)),
-        ("0g", 0, 16, bad(0)),
-        ("@é", 0, 16, bad(0)),
-        ("00/* x", 0, 16, bad(2)),
-        ("@10 zz", 0, 16, bad(4)),
-        ("@10 00 zz", 0, 16, outside(4)),
-        ("zz @10 00", 0, 16, bad(0)),
-        (
-            "aB\x0b0F\x0c// 00 /*\r\n@00000003\t5c/**/",
-            0,
-            16,
-            Ok(&[(0, 0xab), (1, 0x0f), (3, 0x5c)]),
-        ),
-        ("00 // 01", 0, 16, Ok(&[(0, 0)])),
-        ("00 01 @0 ff", 0, 16, Ok(&[(0, 0), (1, 1), (0, 0xff)])),
-        ("@fffffffF 01 02", 0xffff_fff0, 16, outside(13)),
-        ("@0 01", 4, 4, outside(3)),
-        ("01 02", 4, 1, outside(3)),
-    ];
-    for (text, base, size, want) in cases {
-        match Image::text(rt.alloc(), text.as_bytes(), base, size) {
-            Ok(image) => {
-                let places = want.unwrap_or(&[]);
-                assert_eq!(rt; image.bytes().len(), places.len(), "{text}");
-                for (byte, place) in image.bytes().iter().zip(places) {
-                    assert_eq!(rt; (byte.address, byte.value), *place, "{text}");
-                }
-            }
-            Err(fault) => assert_eq!(rt; Err(fault), want, "{text}"),
+type Case = (&'static str, Result<&'static [(u32, u8)], ImageFault>);
+
+// At base 0 and size 16.
+const TEXTS: [Case; 22] = [
+    ("@0 1", Err(ImageFault::BadToken { at: 3 })),
+    ("0001", Err(ImageFault::BadToken { at: 0 })),
+    ("@10 00", Err(ImageFault::Outside { at: 4 })),
+    ("/* x", Err(ImageFault::BadToken { at: 0 })),
+    ("// a\n", Err(ImageFault::Empty)),
+    ("00/*c*/01", Ok(&[(0, 0), (1, 1)])),
+    ("", Err(ImageFault::Empty)),
+    ("@f", Err(ImageFault::Empty)),
+    ("/*/", Err(ImageFault::BadToken { at: 0 })),
+    ("00/1", Err(ImageFault::BadToken { at: 0 })),
+    ("00@0", Err(ImageFault::BadToken { at: 0 })),
+    ("@ 00", Err(ImageFault::BadToken { at: 0 })),
+    ("@000000001 00", Err(ImageFault::BadToken { at: 0 })),
+    ("0g", Err(ImageFault::BadToken { at: 0 })),
+    ("@é", Err(ImageFault::BadToken { at: 0 })),
+    ("00/* x", Err(ImageFault::BadToken { at: 2 })),
+    ("@10 zz", Err(ImageFault::BadToken { at: 4 })),
+    ("@10 00 zz", Err(ImageFault::Outside { at: 4 })),
+    ("zz @10 00", Err(ImageFault::BadToken { at: 0 })),
+    (
+        "aB\x0b0F\x0c// 00 /*\r\n@00000003\t5c/**/",
+        Ok(&[(0, 0xab), (1, 0x0f), (3, 0x5c)]),
+    ),
+    ("00 // 01", Ok(&[(0, 0)])),
+    ("00 01 @0 ff", Ok(&[(0, 0), (1, 1), (0, 0xff)])),
+];
+
+// At base 0xfffffff0 and size 16.
+const HIGH_TEXTS: [Case; 3] = [
+    ("@fffffffF 01", Ok(&[(0xffff_ffff, 1)])),
+    ("@fffffffF 01 02", Err(ImageFault::Outside { at: 13 })),
+    ("@0 01", Err(ImageFault::Outside { at: 3 })),
+];
+
+fn texts_say(rt: &impl Abort, alloc: Global, base: u32, cases: &[Case])
+    requires { base + 16 ≤ 2 ^ 32 }
+{
+    for (text, want) in cases {
+        match Image::text(alloc, text.as_bytes(), base, 16) {
+            Ok(image) => places_are(rt, text, image.bytes(), want.unwrap_or(&[])),
+            Err(fault) => assert_eq!(rt; Err(fault), *want, "{text}"),
         }
     }
-    Ok(())
+}
+
+fn places_are(rt: &impl Abort, text: &str, bytes: &[ByteAt], places: &[(u32, u8)]) {
+    assert_eq!(rt; bytes.len(), places.len(), "{text}");
+    for (byte, place) in bytes.iter().zip(places) {
+        assert_eq!(rt; (byte.address, byte.value), *place, "{text}");
+    }
+}
+
+#[test]
+fn a_text_says_bytes_and_addresses(rt: HostRuntime) {
+    texts_say(&rt, rt.alloc(), 0, &TEXTS);
+    texts_say(&rt, rt.alloc(), 0xffff_fff0, &HIGH_TEXTS);
 }
 
 #[test]
