@@ -1,7 +1,9 @@
-ghost use Rattle.std.specs.Prelude.{◌≡◌, ◌≤◌, ◌<◌, ◌+◌, ◌^◌, ℕ, length, IfOk, OnOk, All, EachIndex};
+ghost use Rattle.std.specs.Prelude.{◌≡◌, ◌≤◌, ◌<◌, ◌+◌, ◌^◌, ◌⊎◌, ℕ, length, IfOk, IfErr, OnOk, All, EachIndex};
 ghost use Rattle.std.specs.Option.{SomeIff};
 ghost use Rattle.xif_image.specs.Image.{bytes_from, IsWithin, IsFirstOutside};
+ghost use Rattle.xif_image.specs.Text.{text_image};
 
+use crate::text::read;
 use std::alloc::{AllocError, AllocFailed, Global};
 use std::marker::Model;
 
@@ -32,11 +34,16 @@ impl Model for Image {
     ghost invariant = { λ i. All (λ b. IsWithin i.base i.size b.address) i.bytes.items };
 }
 
-/// Why an image can't be made.
+/// Why an image can't be made. Of several faults of a text the first one is told.
 #[derive(Clone, Copy, Debug, PartialEq, Eq)]
 pub enum ImageFault {
-    /// The byte at this index of the image has an address outside the memory; it is the first one.
+    /// The token at this offset of the text, in bytes, is neither a byte nor an address.
+    BadToken { at: u64 },
+    /// The byte at this index of the image, or the one whose token is at this offset of the text, has
+    /// an address outside the memory; it is the first one.
     Outside { at: u64 },
+    /// The text has no byte, and no other fault.
+    Empty,
     /// There is no memory left for the image.
     NoMemory,
 }
@@ -77,6 +84,7 @@ impl Image {
         ensures image { IfOk result (λ image. image ≡ record { base = base; size = size; bytes = bytes_from load bytes.now }) }
         ensures inside { OnOk result (EachIndex bytes.now (λ i. IsWithin base size (load + i))) }
         ensures outside { (at : ℕ) → result ≡ Err (ImageFault.Outside at) → IsFirstOutside base size load (length bytes.now) at }
+        ensures fault { IfErr result (λ fault. (fault ≡ ImageFault.NoMemory) ⊎ ((at : ℕ) × (fault ≡ ImageFault.Outside at))) }
     {
         let mut placed = Vec::with_capacity(alloc, bytes.len())?;
         for (at, value) in bytes.iter().enumerate() {
@@ -95,6 +103,27 @@ impl Image {
         })
     }
 
+    /// The bytes of a text, for a memory of `size` bytes from `base` on. Its tokens stand between white
+    /// space and comments, which go from `//` to the end of the line or from `/*` to `*/`. Two hex
+    /// digits are a byte. The first byte stands at `base`, and each other one behind the one before
+    /// it; but `@` with one to eight hex digits is the address of the next byte.
+    pub fn text(alloc: Global, bytes: &[u8], base: u32, size: u32) -> Result<Image, ImageFault>
+        requires { base + size ≤ 2 ^ 32 }
+        ensures image { IfOk result (λ image. text_image base size bytes.now ≡ Ok image) }
+        ensures memory { IfOk result (λ image. (image.base ≡ base) × (image.size ≡ size)) }
+        ensures fault { IfErr result (λ fault. (fault ≡ ImageFault.NoMemory) ⊎ (text_image base size bytes.now ≡ Err fault)) }
+    {
+        let placed = read(alloc, bytes, base, size)?;
+        if placed.is_empty() {
+            return Err(ImageFault::Empty);
+        }
+        Ok(Image {
+            base,
+            size,
+            bytes: placed,
+        })
+    }
+
     pub(crate) fn bytes(&self) -> &[ByteAt]
         ensures bytes { result.now ≡ self.now.bytes }
         ensures within { All (λ b. IsWithin self.now.base self.now.size b.address) self.now.bytes }
@@ -104,7 +133,7 @@ impl Image {
 }
 
 /// The address of byte `at` of an image at `load`, if the memory has it.
-fn address_of(load: u32, at: u64, base: u32, size: u32) -> Option<u32>
+pub(crate) fn address_of(load: u32, at: u64, base: u32, size: u32) -> Option<u32>
     requires { base + size ≤ 2 ^ 32 }
     ensures { SomeIff result (IsWithin base size (load + at)) (load + at) }
 {

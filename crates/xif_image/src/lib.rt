@@ -7,6 +7,9 @@
 
 mod image;
 mod memory;
+#[cfg(test)]
+mod tests;
+mod text;
 
 pub use image::{ByteAt, Image, ImageFault};
 pub use memory::{MemFault, Memory};
