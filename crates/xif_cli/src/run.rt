@@ -18,8 +18,8 @@ pub(crate) fn raw_machine(alloc: Global, image: &[u8]) -> Result<Machine, NoMemo
     let mut memory = Memory::new(alloc, 0, size)?;
     match Image::raw(alloc, image, 0, 0, size) {
         Ok(image) => memory.place(&image),
-        Err(ImageFault::Outside { .. }) => unreachable!(),
         Err(ImageFault::NoMemory) => return Err(NoMemory),
+        Err(_) => unreachable!(),
     }
     Ok(Machine::new(memory, 0))
 }
