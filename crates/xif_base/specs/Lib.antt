@@ -4,3 +4,5 @@ pub mod Output
 pub mod Calls
 pub mod MemoryShelf
 pub mod MemoryOutput
+pub mod Params
+pub mod Flags
