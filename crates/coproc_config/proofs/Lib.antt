@@ -1,1 +1,4 @@
 pub mod WordBits
+pub mod Checks
+pub mod Sizes
+pub mod States

@@ -62,16 +62,16 @@ merged-whole (suc n) a b c h =
     let c_is : c ≡ c / 2 * 2 ^ 1 + c % 2 = omega arith in
     let not_is : 2 ^ suc n - 1 - c ≡ (2 ^ n - 1 - c / 2) * 2 ^ 1 + (1 - c % 2) = omega (arith, pow-suc 2 n) in
     let from_a : bit_and a c ≡ bit_and (a / 2) (c / 2) * 2 ^ 1 + bit_and (a % 2) (c % 2) =
-        both bit_and _ _ _ _ a_is c_is ∙ and_block 1 (a / 2) (c / 2) (a % 2) (c % 2) (omega arith) (omega arith) in
+    both bit_and _ _ _ _ a_is c_is ∙ and_block 1 (a / 2) (c / 2) (a % 2) (c % 2) (omega arith) (omega arith) in
     let from_b : bit_and b (2 ^ suc n - 1 - c) ≡ bit_and (b / 2) (2 ^ n - 1 - c / 2) * 2 ^ 1 + bit_and (b % 2) (1 - c % 2) =
-        both bit_and _ _ _ _ b_is not_is ∙ and_block 1 (b / 2) (2 ^ n - 1 - c / 2) (b % 2) (1 - c % 2) (omega arith) (omega arith) in
+    both bit_and _ _ _ _ b_is not_is ∙ and_block 1 (b / 2) (2 ^ n - 1 - c / 2) (b % 2) (1 - c % 2) (omega arith) (omega arith) in
     let joined : bit_or (bit_and (a / 2) (c / 2) * 2 ^ 1 + bit_and (a % 2) (c % 2)) (bit_and (b / 2) (2 ^ n - 1 - c / 2) * 2 ^ 1 + bit_and (b % 2) (1 - c % 2)) ≡ bit_or (bit_and (a / 2) (c / 2)) (bit_and (b / 2) (2 ^ n - 1 - c / 2)) * 2 ^ 1 + bit_or (bit_and (a % 2) (c % 2)) (bit_and (b % 2) (1 - c % 2)) =
-        or_block 1 (bit_and (a / 2) (c / 2)) (bit_and (b / 2) (2 ^ n - 1 - c / 2)) (bit_and (a % 2) (c % 2)) (bit_and (b % 2) (1 - c % 2))
-        (omega (arith, and_le_l (a % 2) (c % 2))) (omega (arith, and_le_l (b % 2) (1 - c % 2))) in
+    or_block 1 (bit_and (a / 2) (c / 2)) (bit_and (b / 2) (2 ^ n - 1 - c / 2)) (bit_and (a % 2) (c % 2)) (bit_and (b % 2) (1 - c % 2))
+    (omega (arith, and_le_l (a % 2) (c % 2))) (omega (arith, and_le_l (b % 2) (1 - c % 2))) in
     let bit : bit_or (bit_and (a % 2) (c % 2)) (bit_and (b % 2) (1 - c % 2)) ≡ cond (c % 2 == 1) (a % 2) (b % 2) =
-        chosen (a % 2) (b % 2) (c % 2) (omega arith) (omega arith) (omega arith) in
+    chosen (a % 2) (b % 2) (c % 2) (omega arith) (omega arith) (omega arith) in
     let others : bit_or (bit_and (a / 2) (c / 2)) (bit_and (b / 2) (2 ^ n - 1 - c / 2)) ≡ merged n (a / 2) (b / 2) (c / 2) =
-        merged-whole n (a / 2) (b / 2) (c / 2) (half_below c n h) in
+    merged-whole n (a / 2) (b / 2) (c / 2) (half_below c n h) in
     both bit_or _ _ _ _ from_a from_b ∙ joined ∙ both (λ x y. x * 2 ^ 1 + y) _ _ _ _ others bit ∙ omega arith
 
 pub modulo_64-added : (q : ℕ) (p : ℤ) → FitsSigned w64 p → (q + of_z w64 p) % 2 ^ 64 ≡ modulo_64 (pos q +ℤ p)

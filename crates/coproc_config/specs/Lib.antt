@@ -1,3 +1,7 @@
 pub mod Bits
 pub mod Table
 pub mod Entry
+pub mod Set
+pub mod State
+pub mod Check
+pub mod Accept

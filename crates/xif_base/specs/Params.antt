@@ -1,5 +1,5 @@
 -- The parameters of the interface (CV-X-IF 1.0.0, "Parameters"), and their ranges in this profile.
-use Rattle.std.specs.Prelude.{◌≡◌, ◌≤◌, ◌<◌, ◌==◌, ◌&&◌, ◌||◌, ◌^◌, ◌⊎◌, ℕ, Bool, true, not, cond, List, [], ◌∷◌, Result, Ok, Err, nat_lt, nat_le}
+use Rattle.std.specs.Prelude.{◌≡◌, ◌≤◌, ◌<◌, ◌==◌, ◌&&◌, ◌||◌, ◌^◌, ◌⊎◌, ℕ, Bool, true, not, List, [], ◌∷◌, nat_lt, nat_le}
 use Rattle.xif_base.specs.declared.params.Params.{Params}
 use Rattle.xif_base.specs.declared.params.ParamFault.{ParamFault}
 use Rattle.xif_base.specs.declared.params.ParamFault.TheVariants.{NumRs, IdWidth, RfrWidth, RfwWidth, NumHarts, HartidWidth, DualRead}
@@ -43,8 +43,3 @@ ranges p =
     ∷ (has_hartids p.hartid_width p.num_harts, HartidWidth)
     ∷ (within 0 p.num_rs p.dual_read, DualRead)
     ∷ []
-
--- the fault of the first test that fails
-abbrev pub first_fault : List (Bool × ParamFault) → Result Unit ParamFault
-first_fault [] = Ok tt
-first_fault (test ∷ tests) = cond test.0 (first_fault tests) (Err test.1)

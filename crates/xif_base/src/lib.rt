@@ -12,7 +12,8 @@
 //! a program over them is all that there is to know. `DiskShelf` and `StdOut` are the real outside.
 //! They tell nothing of the bytes that they hold, and are trusted to the system.
 //!
-//! The definitions stand in `specs/`: `Params` (the ranges, and the first fault), `Flags` (which bit
+//! The definitions stand in `specs/`: `Checks` (the first fault of tests in an order), `Params` (the
+//! ranges), `Flags` (which bit
 //! stands for which half of a lane), `Faults` (when a count rose), `Files` (what is told of a file,
 //! and what a fetch copies), `Output` (how an output grows), `Calls` (the calls that are to fail),
 //! `MemoryShelf` and `MemoryOutput` (what the outside in memory holds).

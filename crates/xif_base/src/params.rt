@@ -1,6 +1,7 @@
 // The parameters of the interface, and the key of an instruction.
 ghost use Rattle.std.specs.Prelude.{◌≡◌, ◌↔◌, IsOk};
-ghost use Rattle.xif_base.specs.Params.{IsInRange, first_fault, ranges, is_port_width as port_width, has_hartids as has_ids};
+ghost use Rattle.xif_base.specs.Checks.{first_fault};
+ghost use Rattle.xif_base.specs.Params.{IsInRange, ranges, is_port_width as port_width, has_hartids as has_ids};
 
 /// The parameters of the interface (CV-X-IF 1.0.0, section "Parameters").
 #[derive(Clone, Copy, Debug, PartialEq, Eq)]
