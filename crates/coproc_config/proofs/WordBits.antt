@@ -1,13 +1,13 @@
 -- The code on whole words gives the bits that the definitions name one by one.
-use Rattle.std.proofs.Common.{◌≡◌, ◌<◌, ◌==◌, ◌+◌, ◌-◌, ◌*◌, ◌/◌, ◌%◌, ◌^◌, ℕ, zero, suc, ℤ, pos, negsuc, ◌+ℤ◌, cond, bit_and, bit_or, refl, sym, ap, zero-add, ◌∙◌, arith, lit<, FitsSigned, w64, of_z}
+use Rattle.std.proofs.Common.{◌≡◌, ◌<◌, ◌≤◌, ◌==◌, ◌+◌, ◌-◌, ◌*◌, ◌/◌, ◌%◌, ◌^◌, ℕ, zero, suc, ℤ, pos, negsuc, ◌+ℤ◌, cond, bit_and, bit_or, refl, sym, ap, subst, zero-add, ◌∙◌, arith, lit<, FitsSigned, w64, of_z}
 use Rattle.std.specs.Int.{reverse_bits_onto, int_rem_euclid}
 use Rattle.std.specs.Int.RustNames.{unsigned_abs}
-use Rattle.std.proofs.lemmas.Nat.{and_mask, one_shl, and_block, or_block, and_le_l, or_comm, or_disjoint}
+use Rattle.std.proofs.lemmas.Nat.{and_mask, one_shl, and_block, or_block, and_le_l, or_comm, or_disjoint, pow-add, pow_pos, mul-add-lt, shr_below, mod_below}
 use Rattle.std.specs.Int.Bits.{and_zero_l, and_zero_r}
-use Rattle.std.proofs.Math.Nat.{pow-suc}
+use Rattle.std.proofs.Math.Nat.{pow-suc, pow-le-pow_right}
 use Rattle.std.proofs.lemmas.Int.{ints, int_rem_euclid_is}
 use lib.Count.{ones as all_ones, ones_step}
-use Rattle.coproc_config.specs.Bits.{reversed, ones, merged, modulo_64}
+use Rattle.coproc_config.specs.Bits.{with_field, reversed, ones, merged, modulo_64}
 
 both : (f : ℕ → ℕ → ℕ) (x y z w : ℕ) → x ≡ y → z ≡ w → f x z ≡ f y w
 both f x y z w p q = ap (λ n. f n z) p ∙ ap (f y) q
@@ -78,3 +78,20 @@ pub modulo_64-added : (q : ℕ) (p : ℤ) → FitsSigned w64 p → (q + of_z w64
 modulo_64-added q (pos n) f = refl
 modulo_64-added q (negsuc n) f =
     sym (ap unsigned_abs (int_rem_euclid_is (pos q +ℤ negsuc n) (pos 18446744073709551616) 18446744073709551616 1 (q + (18446744073709551616 - suc n)) (lit< tt) refl (omega (arith, ints))))
+
+-- `1 << bit` at 8 bits
+pub flag-below : (bit top : ℕ) → bit ≤ top → top < 8 → 1 * 2 ^ bit % 256 ≤ 2 ^ top
+flag-below bit top h k = omega (arith, one_shl bit 8 (omega arith), pow-le-pow_right {n = 2} (lit< tt) h)
+
+-- a word whose bits are replaced is a word
+pub with_field-below : (word low len value : ℕ) → word < 2 ^ 32 → low + len ≤ 32 → with_field word low len value < 2 ^ 32
+with_field-below word low len value h k =
+    let rest : 32 - (low + len) + (low + len) ≡ 32 = omega arith in
+    let whole : 2 ^ (low + len) * 2 ^ (32 - (low + len)) ≡ 2 ^ 32 = omega (arith, pow-add 2 (32 - (low + len)) (low + len), ap (λ n. 2 ^ n) rest) in
+    let P : ℕ → Type 0 = λ n. word < 2 ^ n in
+    let above : word / 2 ^ (low + len) < 2 ^ (32 - (low + len)) = shr_below word (32 - (low + len)) (low + len) (subst P (sym rest) h) in
+    let inside : value % 2 ^ len * 2 ^ low + word % 2 ^ low < 2 ^ low * 2 ^ len =
+        mul-add-lt (value % 2 ^ len) (2 ^ low) (word % 2 ^ low) (2 ^ len) (mod_below value (2 ^ len) (pow_pos len)) (mod_below word (2 ^ low) (pow_pos low)) in
+    let below : value % 2 ^ len * 2 ^ low + word % 2 ^ low < 2 ^ (low + len) = omega (arith, pow-add 2 low len) in
+    let all = mul-add-lt (word / 2 ^ (low + len)) (2 ^ (low + len)) (value % 2 ^ len * 2 ^ low + word % 2 ^ low) (2 ^ (32 - (low + len))) above below in
+    omega (arith, all, whole)

@@ -5,3 +5,4 @@ pub mod Set
 pub mod State
 pub mod Check
 pub mod Accept
+pub mod Apply

@@ -70,3 +70,9 @@ line PairAdd = with reads.PairAB writes.Pair names.Nothing (λ x. (x.pair_a + x.
 line PairMul = with reads.AB writes.Pair names.Nothing (λ x. x.a * x.b) kept
 line PairRead = with reads.Nothing writes.Pair names.Accumulator (λ x. x.q) kept
 line PairSum = with reads.PairA writes.One names.Nothing (λ x. (low_half x.pair_a + high_half x.pair_a) % 2 ^ 32) kept
+
+-- how many bits a result has: none where nothing is written, and 32 for each register
+abbrev pub result_bits : Writes → ℕ
+result_bits writes.Nothing = 0
+result_bits writes.One = 32
+result_bits writes.Pair = 64

@@ -35,9 +35,8 @@ impl Set {
         ensures there { IfSome result (λ hit. IsSome (entry_at self.now hit)) }
     {
         for i in 0..self.len() {
-            let hit = self.get(i).accept(i as u8, params, word);
-            if hit.is_some() {
-                return hit;
+            if let Some(hit) = self.get(i).accept(i as u8, params, word) {
+                return Some(hit);
             }
         }
         None
@@ -163,7 +162,7 @@ fn low_flag(params: &Params, lane: u8) -> u8
     requires params { IsInRange params.now }
     requires lane { lane < params.now.num_rs }
     ensures value { result ≡ flag_of (Some (even_bit params.now lane)) }
-    ensures most { result ≤ 4 ^ lane }
+    ensures most { result ≤ 2 ^ (2 * lane) }
 {
     1 << ReadFlags::even_bit(params, lane)
 }
@@ -173,7 +172,7 @@ fn high_flag(params: &Params, lane: u8) -> u8
     requires params { IsInRange params.now }
     requires lane { lane < params.now.num_rs }
     ensures value { result ≡ flag_of (odd_bit params.now lane) }
-    ensures most { result ≤ 2 * 4 ^ lane }
+    ensures most { result ≤ 2 ^ (2 * lane + 1) }
 {
     match ReadFlags::odd_bit(params, lane) {
         Some(bit) => 1 << bit,

@@ -2,7 +2,7 @@
 ghost use Rattle.std.specs.Prelude.{◌≡◌, ◌≤◌, ◌<◌, ◌+◌, ◌*◌, ◌%◌, ◌^◌, ◌+ℤ◌, ◌*ℤ◌, pos};
 ghost use Rattle.rv32_table.specs.Word.{sign_extended};
 ghost use Rattle.coproc_config.specs.Bits.{low_half as low_half_of, high_half as high_half_of, field, with_field, reversed, ones as ones_of, merged, signed, modulo_64};
-ghost use Rattle.coproc_config.specs.Table.{line};
+ghost use Rattle.coproc_config.specs.Table.{line, result_bits};
 ghost use Rattle.coproc_config.specs.Entry.{inputs, HasField};
 
 use crate::operation::{Entry, Op};
@@ -18,7 +18,8 @@ impl Entry {
     /// The result, where `q` is the accumulator that the entry names, and anything where it names none.
     pub(crate) fn result(&self, operands: &Operands, q: u64) -> u64
         requires { HasField self.now }
-        ensures { result ≡ (line self.now.op).result (inputs self.now q operands.now.lanes) }
+        ensures value { result ≡ (line self.now.op).result (inputs self.now q operands.now.lanes) }
+        ensures bits { result < 2 ^ result_bits (line self.now.op).writes }
     {
         let [wide_a, wide_b, wide_c] = operands.lanes;
         let a = low_half(wide_a);
@@ -26,7 +27,7 @@ impl Entry {
         match self.op {
             Op::ExtractU => u64::from(extract(a, self.low, self.len)),
             Op::ExtractS => u64::from(extract_signed(a, self.low, self.len)),
-            Op::Insert => insert(a, b, self.low, self.len),
+            Op::Insert => u64::from(insert(a, b, self.low, self.len)),
             Op::Reverse => u64::from(reverse(a)),
             Op::Ones => u64::from(ones(a)),
             Op::Merge => u64::from(merge(a, b, low_half(wide_c))),
@@ -98,7 +99,16 @@ fn extract_signed(word: u32, low: u8, len: u8) -> u32
 }
 
 /// A word with bits replaced by the low bits of a value.
-fn insert(value: u32, word: u32, low: u8, len: u8) -> u64
+fn insert(value: u32, word: u32, low: u8, len: u8) -> u32
+    requires some { 0 < len }
+    requires within { low + len ≤ 32 }
+    ensures { result ≡ with_field word low len value }
+{
+    insert_wide(value, word, low, len) as u32
+}
+
+/// The same in 64 bits, which can be shifted by 32.
+fn insert_wide(value: u32, word: u32, low: u8, len: u8) -> u64
     requires some { 0 < len }
     requires within { low + len ≤ 32 }
     ensures { result ≡ with_field word low len value }

@@ -2,6 +2,7 @@
 #![tactic(auto)]
 
 mod accept;
+mod apply;
 mod check;
 mod compute;
 mod operation;
