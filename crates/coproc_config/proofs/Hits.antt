@@ -1,6 +1,5 @@
 -- Hits and the entries that they name.
-use Rattle.std.proofs.Common.{◌≡◌, ◌<◌, ◌≤◌, ℕ, List, length, Option, Some, None, IsSome, is_some, slice_get, inl, inr, refl, sym, ap, ap₂, ◌∙◌, arith}
-use Rattle.std.proofs.lemmas.Option.{slice_get_cases}
+use Rattle.std.proofs.Common.{◌≡◌, ℕ, List, Option, Some, slice_get, ap, ap₂, ◌∙◌}
 use Rattle.xif_base.specs.declared.flags.ReadFlags.{ReadFlags}
 use Rattle.xif_base.specs.declared.flags.WriteFlags.{WriteFlags}
 use Rattle.coproc_config.specs.declared.operation.Entry.{Entry}
@@ -20,16 +19,7 @@ with_bits unit entry reads writes = record {
 pub hit-same : (unit entry : ℕ) (reads : ReadFlags) (writes : WriteFlags) (r w : ℕ) → reads.0 ≡ r → writes.0 ≡ w → ◌≡◌ {A = Hit} (record { unit = unit; entry = entry; register_read = reads; writeback = writes }) (record { unit = unit; entry = entry; register_read = record { 0 = r }; writeback = record { 0 = w } })
 hit-same unit entry reads writes r w p q = ap₂ (with_bits unit entry) p q
 
-listed : (entries : List Entry) (i : ℕ) → i < length entries → IsSome (slice_get entries i)
-listed entries i h =
-    elim (slice_get_cases entries i).1 [
-      | inl found ↦ ap is_some found.2
-      | inr past ↦ absurd (omega arith)
-    ]
-
--- an entry of a unit that is there
-pub entry-there : (units : List UnitTable) (hit : Hit) (i : ℕ) (unit : UnitTable) → hit.unit ≡ i → slice_get units i ≡ Some unit → hit.entry < length unit.entries → IsSome (entry_at units hit)
-entry-there units hit i unit same found h =
-    let there : entry_at units hit ≡ slice_get unit.entries hit.entry =
-        ap (λ n. entry_in (slice_get units n) hit.entry) same ∙ ap (λ u. entry_in u hit.entry) found in
-    rw there (listed unit.entries hit.entry h)
+-- the entry that a hit in a unit names
+pub entry_at-unit : (units : List UnitTable) (hit : Hit) (i : ℕ) (unit : UnitTable) → hit.unit ≡ i → slice_get units i ≡ Some unit → entry_at units hit ≡ slice_get unit.entries hit.entry
+entry_at-unit units hit i unit same found =
+    ap (λ n. entry_in (slice_get units n) hit.entry) same ∙ ap (λ u. entry_in u hit.entry) found

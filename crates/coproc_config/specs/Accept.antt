@@ -1,5 +1,5 @@
 -- Which entry takes a word, and what it reads and writes.
-use Rattle.std.specs.Prelude.{◌==◌, ◌&&◌, ◌+◌, ◌^◌, ◌%◌, ℕ, zero, suc, Bool, true, List, [], ◌∷◌, Option, Some, None, find, sum_by, nat_lt, bit_and, slice_get}
+use Rattle.std.specs.Prelude.{◌≡◌, ◌==◌, ◌&&◌, ◌+◌, ◌^◌, ◌%◌, ℕ, zero, suc, Bool, true, List, [], ◌∷◌, Option, Some, None, find, sum_by, nat_lt, bit_and, slice_get}
 use Rattle.std.specs.List.{list_all}
 use Rattle.std.specs.Option.{option_map}
 use Rattle.rv32_table.specs.Word.{bits}
@@ -11,7 +11,7 @@ use Rattle.coproc_config.specs.declared.operation.Reads.TheVariants as reads
 use Rattle.coproc_config.specs.declared.operation.Writes.{Writes}
 use Rattle.coproc_config.specs.declared.operation.Writes.TheVariants as writes
 use Rattle.coproc_config.specs.declared.accept.Hit.{Hit}
-use Rattle.coproc_config.specs.Table.{line}
+use Rattle.coproc_config.specs.Table.{line, write_flags}
 use Rattle.coproc_config.specs.Set.{UnitTable, Place, places}
 
 -- the fields of a word for registers: rd, and the source of each lane
@@ -72,12 +72,6 @@ read_flags p reads =
     sum_by (λ lane. flag_of (Some (even_bit p lane))) (lanes_of reads)
     + sum_by (λ lane. flag_of (odd_bit p lane)) (pairs_of reads)
 
--- the flags of the registers that are written
-abbrev pub write_flags : Writes → ℕ
-write_flags writes.Nothing = 0
-write_flags writes.One = 1
-write_flags writes.Pair = 3
-
 abbrev pub hit_at : Params → Place → Hit
 hit_at p place = record {
   unit = place.unit;
@@ -97,3 +91,10 @@ entry_in (Some unit) i = slice_get unit.entries i
 -- the entry that a hit names
 abbrev pub entry_at : List UnitTable → Hit → Option Entry
 entry_at units hit = entry_in (slice_get units hit.unit) hit.entry
+
+-- there is the entry that is named, and a hit has the flags of what it reads and writes
+pub record HasFlagsOf (named : Option Entry) (p : Params) (hit : Hit) : Type 0 where
+  pub entry : Entry
+  pub there : named ≡ Some entry
+  pub reads : hit.register_read.0 ≡ read_flags p (line entry.op).reads
+  pub writes : hit.writeback.0 ≡ write_flags (line entry.op).writes

@@ -1,6 +1,5 @@
 pub mod Bits
 pub mod Table
-pub mod Entry
 pub mod Set
 pub mod State
 pub mod Check

@@ -1,5 +1,5 @@
 -- The table of the coprocessor operations.
-use Rattle.std.specs.Prelude.{◌+◌, ◌*◌, ◌%◌, ◌^◌, ◌*ℤ◌, ◌+ℤ◌, ℕ, pos}
+use Rattle.std.specs.Prelude.{◌+◌, ◌*◌, ◌/◌, ◌%◌, ◌^◌, ◌*ℤ◌, ◌+ℤ◌, ℕ, pos}
 use Rattle.rv32_table.specs.Word.{sign_extended}
 use Rattle.coproc_config.specs.declared.operation.Op.{Op}
 use Rattle.coproc_config.specs.declared.operation.Op.TheVariants.{ExtractU, ExtractS, Insert, Reverse, Ones, Merge, AccClear, AccAdd, AccMac, AccReadLow, AccReadHigh, AccSwap, PairAdd, PairMul, PairRead, PairSum}
@@ -71,8 +71,12 @@ line PairMul = with reads.AB writes.Pair names.Nothing (λ x. x.a * x.b) kept
 line PairRead = with reads.Nothing writes.Pair names.Accumulator (λ x. x.q) kept
 line PairSum = with reads.PairA writes.One names.Nothing (λ x. (low_half x.pair_a + high_half x.pair_a) % 2 ^ 32) kept
 
--- how many bits a result has: none where nothing is written, and 32 for each register
-abbrev pub result_bits : Writes → ℕ
-result_bits writes.Nothing = 0
-result_bits writes.One = 32
-result_bits writes.Pair = 64
+-- the flags of the registers that are written: bit 0 for rd, bit 1 for the odd register of a pair
+abbrev pub write_flags : Writes → ℕ
+write_flags writes.Nothing = 0
+write_flags writes.One = 1
+write_flags writes.Pair = 3
+
+-- how many bits a result has, by these flags: 32 for each register
+abbrev pub result_bits : ℕ → ℕ
+result_bits flags = 32 * (flags % 2 + flags / 2 % 2)

@@ -1,12 +1,12 @@
 // Which entry takes a word.
-ghost use Rattle.std.specs.Prelude.{◌≡◌, ◌≤◌, ◌<◌, ◌^◌, ◌+◌, ◌*◌, ◌&&◌, ℕ, Some, length, find, nat_lt, bit_and, IfSome, IsSome, IsTrue};
+ghost use Rattle.std.specs.Prelude.{◌≡◌, ◌≤◌, ◌<◌, ◌^◌, ◌+◌, ◌*◌, ◌&&◌, ℕ, Some, length, find, slice_get, nat_lt, bit_and, IfSome, IsSome, IsTrue};
 ghost use Rattle.std.specs.Option.{option_map};
 ghost use Rattle.xif_base.specs.Params.{IsInRange};
 ghost use Rattle.xif_base.specs.Flags.{even_bit, odd_bit};
-ghost use Rattle.coproc_config.specs.Table.{line};
+ghost use Rattle.coproc_config.specs.Table.{line, write_flags as write_flags_of};
 ghost use Rattle.coproc_config.specs.Set.{places_of};
 ghost use Rattle.coproc_config.specs.Check.{IsLawful};
-ghost use Rattle.coproc_config.specs.Accept.{rd_field as rd_field_of, source_field as source_field_of, is_even, can_read, can_write, takes, flag_of, read_flags as read_flags_of, write_flags as write_flags_of, hit_at, hit_of, entry_at};
+ghost use Rattle.coproc_config.specs.Accept.{rd_field as rd_field_of, source_field as source_field_of, is_even, can_read, can_write, takes, flag_of, read_flags as read_flags_of, hit_at, hit_of, entry_at, HasFlagsOf};
 
 use crate::operation::{Entry, Reads, Writes};
 use crate::set::{Set, Unit};
@@ -32,7 +32,7 @@ impl Set {
         requires lawful { IsLawful self.now }
         requires params { IsInRange params.now }
         ensures first { result ≡ hit_of self.now params.now word }
-        ensures there { IfSome result (λ hit. IsSome (entry_at self.now hit)) }
+        ensures flags { IfSome result (λ hit. HasFlagsOf (entry_at self.now hit) params.now hit) }
     {
         for i in 0..self.len() {
             if let Some(hit) = self.get(i).accept(i as u8, params, word) {
@@ -51,7 +51,8 @@ impl Unit {
         ensures first { result ≡ option_map (hit_at params.now)
             (find (λ place. takes params.now word place.row) (places_of (unit, self.now))) }
         ensures unit { IfSome result (λ hit. hit.unit ≡ unit) }
-        ensures there { IfSome result (λ hit. hit.entry < length self.now.entries) }
+        ensures flags { IfSome result
+            (λ hit. HasFlagsOf (slice_get self.now.entries hit.entry) params.now hit) }
     {
         for i in 0..self.len() {
             let entry = self.get(i);

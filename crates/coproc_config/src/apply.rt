@@ -1,6 +1,6 @@
 // What an accepted instruction does.
 ghost use Rattle.std.specs.Prelude.{◌≡◌, ◌<◌, ◌^◌, IfSome, IsSome};
-ghost use Rattle.coproc_config.specs.Table.{line, result_bits};
+ghost use Rattle.coproc_config.specs.Table.{line, write_flags, result_bits};
 ghost use Rattle.coproc_config.specs.Check.{IsLawful};
 ghost use Rattle.coproc_config.specs.Accept.{entry_at};
 ghost use Rattle.coproc_config.specs.State.{IsStateOf};
@@ -23,7 +23,7 @@ impl Set {
         ensures result { result ≡ (applied self.now hit.now state.old operands.now.lanes).result }
         ensures state { state.new ≡ (applied self.now hit.now state.old operands.now.lanes).state }
         ensures bits { IfSome (entry_at self.now hit.now)
-            (λ entry. result < 2 ^ result_bits (line entry.op).writes) }
+            (λ entry. result < 2 ^ result_bits (write_flags (line entry.op).writes)) }
         ensures fits { IsStateOf self.now state.new }
     {
         let entry = self.get(usize::from(hit.unit)).get(usize::from(hit.entry));

@@ -1,6 +1,6 @@
 use Rattle.std.proofs.Common.{◌≡◌, ◌<◌, ◌≤◌, ℕ, Some, slice_get, sym, ap, ◌∙◌}
 use Rattle.coproc_config.specs.Table.{line}
-use Rattle.coproc_config.proofs.Sizes.{HasNamed, entry-named, field-there}
+use Rattle.coproc_config.proofs.Sizes.{HasNamed, entry-named}
 use Rattle.coproc_config.proofs.States.{accumulator-there, IsStateOf-with_accumulator}
 use Rattle.coproc_config.proofs.set.Set.apply.Goals as goal
 
@@ -24,9 +24,7 @@ put-requires c =
 
 pub result-requires-in-Field : goal.result-requires-in-Field
 result-requires-in-Field c =
-    let e = c.get-entry.result.now in
-    let named = entry-named c.args.self.now c.from.result c.from-2.result c.get.result.now e c.requires.lawful c.get.ensures c.get-entry.ensures in
-    field-there (line e.op).names e.low e.len named.bits
+    (entry-named c.args.self.now c.from.result c.from-2.result c.get.result.now c.get-entry.result.now c.requires.lawful c.get.ensures c.get-entry.ensures).bits
 
 pub returns-in-Accumulator-clause-fits : goal.returns-in-Accumulator-clause-fits
 returns-in-Accumulator-clause-fits c = rw c.put.ensures (IsStateOf-with_accumulator c.args.self.now c.args.state.now c.args.hit.now.unit c.get-entry.result.now.acc c.accumulator.result c.requires.state)

@@ -4,7 +4,8 @@ use Rattle.std.specs.Option.{option_map}
 use Rattle.coproc_config.specs.declared.operation.Entry.{Entry}
 use Rattle.coproc_config.specs.declared.accept.Hit.{Hit}
 use Rattle.coproc_config.specs.Set.{UnitTable, Place, place_of}
-use Rattle.coproc_config.specs.Accept.{takes, hit_at, read_flags, write_flags}
+use Rattle.coproc_config.specs.Accept.{takes, hit_at, read_flags}
+use Rattle.coproc_config.specs.Table.{write_flags}
 use Rattle.coproc_config.proofs.Finds.{missed, met}
 use Rattle.coproc_config.proofs.Hits.{hit-same}
 use Rattle.coproc_config.proofs.set.Unit.accept.Goals as goal
@@ -30,3 +31,11 @@ loop-i-preserved c =
     let no : takes p c.args.word row ≡ false = sym c.if-takes.ensures.takes in
     let none : option_map (hit_at p) (cond (takes p c.args.word row) (Some place) None) ≡ None = ap (λ b. option_map (hit_at p) (cond b (Some place) None)) no in
     c.loop-i.invariant ∙ missed (hit_at p) (λ place. takes p c.args.word place.row) (λ entry. place_of unit entry ∷ []) c.args.self.now.entries c.loop-i.i row c.get-entry.ensures none
+
+pub returns-then-takes-clause-flags : goal.returns-then-takes-clause-flags
+returns-then-takes-clause-flags c = record {
+  entry = c.get-entry.result.now;
+  there = c.get-entry.ensures;
+  reads = c.read_flags.ensures ∙ ap (read_flags c.args.params.now) c.reads.ensures;
+  writes = c.write_flags.ensures ∙ ap write_flags c.writes.ensures;
+}
