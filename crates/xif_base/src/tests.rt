@@ -97,3 +97,170 @@ fn the_standard_output_takes_a_short_piece(rt: HostRuntime) {
     let mut out = StdOut::new(&rt);
     assert_eq!(rt; out.put(b"short\n"), Ok(6));
 }
+
+#[test]
+fn parameters_are_checked_in_the_order_of_their_fields(rt: HostRuntime) {
+    let least = Params {
+        num_rs: 2,
+        id_width: 3,
+        rfr_width: 32,
+        rfw_width: 32,
+        num_harts: 1,
+        hartid_width: 1,
+        dual_read: 0,
+        dual_write: false,
+        split: true,
+    };
+    let most = Params {
+        num_rs: 3,
+        id_width: 12,
+        rfr_width: 64,
+        rfw_width: 64,
+        num_harts: 4,
+        hartid_width: 8,
+        dual_read: 3,
+        dual_write: true,
+        split: false,
+    };
+    let wide = Params {
+        num_harts: 4,
+        hartid_width: 1,
+        dual_read: 3,
+        ..least
+    };
+    for (params, want) in [
+        (least, Ok(())),
+        (most, Ok(())),
+        (Params { num_rs: 1, ..most }, Err(ParamFault::NumRs)),
+        (Params { num_rs: 4, ..most }, Err(ParamFault::NumRs)),
+        (
+            Params {
+                id_width: 2,
+                ..most
+            },
+            Err(ParamFault::IdWidth),
+        ),
+        (
+            Params {
+                id_width: 13,
+                ..most
+            },
+            Err(ParamFault::IdWidth),
+        ),
+        (
+            Params {
+                rfr_width: 33,
+                ..least
+            },
+            Err(ParamFault::RfrWidth),
+        ),
+        (
+            Params {
+                rfr_width: 32,
+                ..most
+            },
+            Err(ParamFault::RfrWidth),
+        ),
+        (
+            Params {
+                rfw_width: 0,
+                ..least
+            },
+            Err(ParamFault::RfwWidth),
+        ),
+        (
+            Params {
+                rfw_width: 32,
+                ..most
+            },
+            Err(ParamFault::RfwWidth),
+        ),
+        (
+            Params {
+                num_harts: 0,
+                ..most
+            },
+            Err(ParamFault::NumHarts),
+        ),
+        (
+            Params {
+                num_harts: 5,
+                ..most
+            },
+            Err(ParamFault::NumHarts),
+        ),
+        (
+            Params {
+                hartid_width: 0,
+                ..most
+            },
+            Err(ParamFault::HartidWidth),
+        ),
+        (
+            Params {
+                hartid_width: 9,
+                ..most
+            },
+            Err(ParamFault::HartidWidth),
+        ),
+        (
+            Params {
+                hartid_width: 1,
+                ..most
+            },
+            Err(ParamFault::HartidWidth),
+        ),
+        (Params { num_rs: 2, ..most }, Err(ParamFault::DualRead)),
+        // Three faults, of which the first is told.
+        (wide, Err(ParamFault::RfrWidth)),
+        (
+            Params {
+                rfr_width: 64,
+                ..wide
+            },
+            Err(ParamFault::HartidWidth),
+        ),
+    ] {
+        assert_eq!(rt; params.check(), want, "at {params:?}");
+    }
+}
+
+#[test]
+fn flags_keys_and_names(rt: HostRuntime) -> Result<(), Fail> {
+    let params = Params {
+        num_rs: 3,
+        id_width: 3,
+        rfr_width: 64,
+        rfw_width: 32,
+        num_harts: 1,
+        hartid_width: 1,
+        dual_read: 2,
+        dual_write: false,
+        split: true,
+    };
+    for (lane, even, odd) in [(0, 0, Some(1)), (1, 2, Some(3)), (2, 4, None)] {
+        assert_eq!(rt; ReadFlags::even_bit(&params, lane), even, "at {lane}");
+        assert_eq!(rt; ReadFlags::odd_bit(&params, lane), odd, "at {lane}");
+    }
+    for bits in [0, 1, 2, 3, 4, 63, 64, 255] {
+        let reads = ReadFlags::from_bits(bits);
+        let writes = WriteFlags::from_bits(bits);
+        assert_eq!(rt;
+            reads.map(|set| set.bits()),
+            if bits < 64 { Some(bits) } else { None }
+        );
+        assert_eq!(rt;
+            writes.map(|set| set.bits()),
+            if bits < 4 { Some(bits) } else { None }
+        );
+    }
+    assert!(rt; ReadFlags::BIT5.contains(ReadFlags::BIT5));
+    assert!(rt; !ReadFlags::BIT5.contains(ReadFlags::BIT4));
+    assert!(rt; (WriteFlags::RD | WriteFlags::NEXT).contains(WriteFlags::NEXT));
+    assert!(rt; !WriteFlags::RD.contains(WriteFlags::NEXT));
+    assert_eq!(rt; Name::of(rt.alloc(), "job.toml")?.as_str(), "job.toml");
+    let key = Key { hart: 0, id: 1 };
+    assert_eq!(rt; key, Key { hart: 0, id: 1 });
+    assert!(rt; key != Key { hart: 1, id: 1 });
+    Ok(())
+}
