@@ -30,12 +30,13 @@ accumulators-there : (units : List UnitTable) (state : List (List ℕ)) (i : ℕ
 accumulators-there units state i unit same found =
     let within : i < length units = slice_get-within units i unit found in
     let lengths : length state ≡ length units = sym (length-map state (λ accumulators. length accumulators)) ∙ ap (λ ns. length ns) same ∙ length-map units (λ unit. unit.accumulators) in
-    let inside : i < length state = omega arith in
-    (inside,
+    let inside : i < length state = omega arith in (
+      inside,
       sym (get_or-map (λ accumulators. length accumulators) state i [] 0 inside)
-      ∙ ap (λ ns. get_or ns i 0) same
-      ∙ get_or-map (λ unit. unit.accumulators) units i unit 0 within
-      ∙ ap (λ unit. unit.accumulators) (get_or_from_slice_get units i unit unit found))
+          ∙ ap (λ ns. get_or ns i 0) same
+          ∙ get_or-map (λ unit. unit.accumulators) units i unit 0 within
+          ∙ ap (λ unit. unit.accumulators) (get_or_from_slice_get units i unit unit found),
+    )
 
 -- the accumulator that an entry of a unit names
 pub accumulator-there : (units : List UnitTable) (state : List (List ℕ)) (i : ℕ) (unit : UnitTable) (acc : ℕ) (n : Names) → IsStateOf units state → slice_get units i ≡ Some unit → has_accumulator n acc unit.accumulators ≡ true → n ≡ names.Accumulator → HasAccumulator state i acc

@@ -1,5 +1,5 @@
 // Which entry takes a word.
-ghost use Rattle.std.specs.Prelude.{◌≡◌, ◌≤◌, ◌<◌, ◌^◌, ◌+◌, ◌*◌, ◌&&◌, ℕ, Some, length, find, slice_get, nat_lt, bit_and, IfSome, IsSome, IsTrue};
+ghost use Rattle.std.specs.Prelude.{◌≡◌, ◌≤◌, ◌<◌, ◌^◌, ◌+◌, ◌*◌, ◌%◌, ◌&&◌, ℕ, Some, length, find, slice_get, nat_lt, bit_and, IfSome, IsSome, IsTrue};
 ghost use Rattle.std.specs.Option.{option_map};
 ghost use Rattle.xif_base.specs.Params.{IsInRange};
 ghost use Rattle.xif_base.specs.Flags.{even_bit, odd_bit};
@@ -33,6 +33,7 @@ impl Set {
         requires params { IsInRange params.now }
         ensures first { result ≡ hit_of self.now params.now word }
         ensures flags { IfSome result (λ hit. HasFlagsOf (entry_at self.now hit) params.now hit) }
+        ensures pair { IfSome result (λ hit. hit.writeback.0 ≡ 3 → rd_field_of word % 2 ≡ 0) }
     {
         for i in 0..self.len() {
             if let Some(hit) = self.get(i).accept(i as u8, params, word) {
@@ -53,6 +54,7 @@ impl Unit {
         ensures unit { IfSome result (λ hit. hit.unit ≡ unit) }
         ensures flags { IfSome result
             (λ hit. HasFlagsOf (slice_get self.now.entries hit.entry) params.now hit) }
+        ensures pair { IfSome result (λ hit. hit.writeback.0 ≡ 3 → rd_field_of word % 2 ≡ 0) }
     {
         for i in 0..self.len() {
             let entry = self.get(i);
@@ -73,6 +75,7 @@ impl Entry {
     fn takes(&self, params: &Params, word: u32) -> bool
         ensures takes { result ≡ takes params.now word self.now }
         ensures readable { IsTrue result → IsTrue (can_read params.now word (line self.now.op).reads) }
+        ensures writable { IsTrue result → write_flags_of (line self.now.op).writes ≡ 3 → rd_field_of word % 2 ≡ 0 }
     {
         word & self.mask == self.matched
             && is_readable(self.op.reads(), params, word)
@@ -99,7 +102,8 @@ fn is_readable(reads: Reads, params: &Params, word: u32) -> bool
 }
 
 fn is_writable(writes: Writes, params: &Params, word: u32) -> bool
-    ensures { result ≡ can_write params.now word writes }
+    ensures value { result ≡ can_write params.now word writes }
+    ensures even { IsTrue result → write_flags_of writes ≡ 3 → rd_field_of word % 2 ≡ 0 }
 {
     match writes {
         Writes::Nothing | Writes::One => true,
