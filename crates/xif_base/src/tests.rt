@@ -1,15 +1,13 @@
 // Each public call on its happy path, and the calls that are to fail.
 use super::*;
 use std::fs;
-use std::fs::File;
-use std::io::Write;
 use std::test::Fail;
 
 const LETTERS: &[u8] = b"abcdefg";
 
 #[test]
 fn a_shelf_in_memory_fails_by_number_and_moves_by_its_grain(rt: HostRuntime) -> Result<(), Fail> {
-    let mut shelf = MemShelf::new(rt.alloc(), 3, &[1])?;
+    let mut shelf = MemShelf::new(rt.alloc(), 3, &[1], &[], &[])?;
     shelf.insert("letters", LETTERS)?;
     assert_eq!(rt; shelf.bytes("letters"), Some(LETTERS));
     assert_eq!(rt; shelf.bytes("digits"), None);
@@ -38,6 +36,25 @@ fn a_shelf_in_memory_fails_by_number_and_moves_by_its_grain(rt: HostRuntime) -> 
 }
 
 #[test]
+fn a_shelf_in_memory_is_written(rt: HostRuntime) -> Result<(), Fail> {
+    let mut shelf = MemShelf::new(rt.alloc(), 3, &[], &[1], &[2])?;
+    shelf.insert("digits", b"0")?;
+    assert_eq!(rt; shelf.append("letters", b"ab"), Err(WriteFail::Failed));
+    assert_eq!(rt; shelf.bytes("letters"), None);
+    assert_eq!(rt; shelf.start("letters"), Ok(()));
+    assert_eq!(rt; shelf.append("letters", LETTERS), Ok(3));
+    assert_eq!(rt; shelf.append("letters", b"de"), Ok(2));
+    assert_eq!(rt; shelf.append("letters", b"fg"), Err(WriteFail::Failed));
+    assert_eq!(rt; shelf.bytes("letters"), Some(b"abcde".as_slice()));
+    assert_eq!(rt; shelf.start("letters"), Err(WriteFail::Failed));
+    assert_eq!(rt; shelf.bytes("letters"), Some(b"abcde".as_slice()));
+    assert_eq!(rt; shelf.start("letters"), Ok(()));
+    assert_eq!(rt; shelf.bytes("letters"), Some(b"".as_slice()));
+    assert_eq!(rt; shelf.bytes("digits"), Some(b"0".as_slice()));
+    Ok(())
+}
+
+#[test]
 fn a_file_is_read_whole_within_its_limit(rt: HostRuntime) -> Result<(), Fail> {
     let cases: [(&str, &[u64], u64, Result<&[u8], ReadFail>); 6] = [
         ("letters", &[], 7, Ok(LETTERS)),
@@ -48,7 +65,7 @@ fn a_file_is_read_whole_within_its_limit(rt: HostRuntime) -> Result<(), Fail> {
         ("digits", &[], 7, Err(ReadFail::ReadFault)),
     ];
     for (name, fetches, limit, want) in cases {
-        let mut shelf = MemShelf::new(rt.alloc(), 3, fetches)?;
+        let mut shelf = MemShelf::new(rt.alloc(), 3, fetches, &[], &[])?;
         shelf.insert("letters", LETTERS)?;
         shelf.insert("empty", b"")?;
         match read_all(rt.alloc(), &mut shelf, name, limit) {
@@ -76,10 +93,13 @@ fn all_bytes_are_put_or_a_front_of_them(rt: HostRuntime) -> Result<(), Fail> {
 }
 
 #[test]
-fn a_shelf_on_disk_reads_a_file_and_misses_one(rt: HostRuntime) -> Result<(), Fail> {
+fn a_shelf_on_disk_writes_and_reads_a_file_and_misses_one(rt: HostRuntime) -> Result<(), Fail> {
     let path = "/tmp/xif_base_a_shelf_on_disk";
-    File::create(&rt, path)?.write_all(LETTERS)?;
     let mut shelf = DiskShelf::new(&rt);
+    assert_eq!(rt; shelf.append(path, LETTERS), Err(WriteFail::Failed));
+    assert_eq!(rt; shelf.start(path), Ok(()));
+    assert_eq!(rt; shelf.append(path, &LETTERS[..3]), Ok(3));
+    assert_eq!(rt; shelf.append(path, &LETTERS[3..]), Ok(4));
     let read = read_all(rt.alloc(), &mut shelf, path, 7);
     let mut buf = [b'.'; 2];
     let part = shelf.fetch(path, 4, &mut buf);
@@ -89,6 +109,10 @@ fn a_shelf_on_disk_reads_a_file_and_misses_one(rt: HostRuntime) -> Result<(), Fa
     assert_eq!(rt; &buf, b"ef");
     assert_eq!(rt; shelf.fetch(path, 0, &mut buf), Err(Failed));
     assert_eq!(rt; shelf.fetch(path, 0, &mut []), Ok(0));
+    assert_eq!(rt;
+        shelf.start("/no such folder/letters"),
+        Err(WriteFail::Failed)
+    );
     Ok(())
 }
 

@@ -58,6 +58,7 @@ pub(crate) fn run_raw<S: Shelf, O: Out>(
         HasPut result (O.put_bytes out.old) (O.put_bytes out.new) (raw_report bytes count) }
     ensures refusal { IsRefusal result → out.new ≡ out.old }
     ensures files { S.files shelf.new ≡ S.files shelf.old }
+    ensures write_count { S.write_faults shelf.new ≡ S.write_faults shelf.old }
     ensures fetches { S.fetch_faults shelf.old ≤ S.fetch_faults shelf.new }
     ensures puts { O.faults out.old ≤ O.faults out.new }
 
