@@ -1,14 +1,14 @@
 ghost use Rattle.std.specs.Prelude.{◌≡◌, ◌≤◌, ◌<◌, ◌+◌, ◌-◌, ◌^◌, ◌⊎◌, ◌==◌, ◌∷◌, [], ℕ, not, position, length, take, drop, IfOk, IfErr, IfSome, All};
 ghost use Rattle.std.specs.Option.{option_map_or};
 ghost use Rattle.xif_image.specs.Image.{IsWithin};
-ghost use Rattle.xif_image.specs.Text.{is_white, ends_comment, comment_length, blank_length, ends_token, token_length, length_before, Token, tokens_from, tokens_of, address_in, word_of, placed_by};
+ghost use Rattle.xif_image.specs.Text.{is_white, comment_length, blank_length, ends_token, token_length, length_before, Token, tokens_from, tokens_of, address_in, item_of, placed_by};
 
 use crate::image::{ByteAt, ImageFault, address_of};
 use std::alloc::Global;
 
 /// What a token says.
 #[derive(Clone, Copy, Debug, PartialEq, Eq)]
-pub enum Word {
+pub(crate) enum Item {
     /// The address of the next byte.
     Address(u32),
     /// A byte, which stands at the address that comes after the one before it.
@@ -33,12 +33,12 @@ pub(crate) fn read(
     let mut count = 0;
     let mut at = 0;
     while let Some((start, end)) = next_token(bytes, at) {
-        match word_of(&bytes[start..end]) {
-            Some(Word::Address(address)) => {
+        match item_of(&bytes[start..end]) {
+            Some(Item::Address(address)) => {
                 load = address;
                 count = 0;
             }
-            Some(Word::Byte(value)) => {
+            Some(Item::Byte(value)) => {
                 let Some(address) = address_of(load, count, base, size) else {
                     return Err(ImageFault::Outside { at: start as u64 });
                 };
@@ -139,16 +139,16 @@ fn is_white(byte: u8) -> bool
     matches!(byte, b'\t'..=b'\r' | b' ')
 }
 
-/// What a token says, if it is none of the others.
-fn word_of(token: &[u8]) -> Option<Word>
-    ensures { result ≡ word_of token.now }
+/// What a token says, if anything.
+fn item_of(token: &[u8]) -> Option<Item>
+    ensures { result ≡ item_of token.now }
 {
     if let Some(digits) = token.strip_prefix(b"@") {
-        return Some(Word::Address(address(digits)?));
+        return Some(Item::Address(address(digits)?));
     }
     let mut byte = [0];
     hex::decode_to_slice(token, &mut byte).ok()?;
-    Some(Word::Byte(byte[0]))
+    Some(Item::Byte(byte[0]))
 }
 
 /// The number that one to eight hex digits spell.
