@@ -7,7 +7,7 @@ use crate::image::{ByteAt, ImageFault, address_of};
 use std::alloc::Global;
 
 /// What a token says.
-#[derive(Clone, Copy, Debug, PartialEq, Eq)]
+#[derive(Clone, Copy)]
 pub(crate) enum Item {
     /// The address of the next byte.
     Address(u32),
