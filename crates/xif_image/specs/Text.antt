@@ -1,6 +1,6 @@
 -- The text of an image, after `$readmemh` of IEEE 1364 (17.2.9), of bytes alone. It has three layers: the tokens, what a token says, and
 -- what the tokens place one after another.
-use Rattle.std.specs.Prelude.{zero, suc, ◌+◌, ◌-◌, ◌==◌, ◌&&◌, ◌||◌, ℕ, List, [], ◌∷◌, length, take, drop, codes, nat_eq, nat_lt, nat_le, Bool, true, not, position, unwrap_or, Option, Some, None, Result, Ok, Err, if◌then◌else◌}
+use Rattle.std.specs.Prelude.{zero, suc, ◌+◌, ◌-◌, ◌==◌, ◌&&◌, ◌||◌, ℕ, List, [], ◌∷◌, length, take, drop, codes, nat_eq, nat_lt, nat_le, Bool, true, position, unwrap_or, Option, Some, None, Result, Ok, Err, if◌then◌else◌}
 use Rattle.std.specs.Char.{is_digit}
 use Rattle.std.specs.Option.{option_map}
 use Rattle.std.specs.List.{starts_with, list_all}
@@ -31,13 +31,15 @@ comment_length bytes =
     let inner = length_before (begins (codes "*/")) (drop 2 bytes) in
     if nat_lt inner (length (drop 2 bytes)) then inner + 4 else 0
 
--- How many bytes of white space or of one comment stand at the front: 0 where a token begins. A comment from `//` ends before the line
--- feed. One from `/*` that is open is none, so it begins a token.
+-- How many bytes a white byte or a comment at the front has: 0 where a token begins. A comment from `//` ends before the line feed. One
+-- from `/*` that is open is none, so it begins a token.
 abbrev pub blank_length : List ℕ → ℕ
-blank_length bytes =
-    if begins (codes "//") bytes then unwrap_or (position (λ b. b == 10) bytes) (length bytes)
-    else if begins (codes "/*") bytes then comment_length bytes
-    else unwrap_or (position (λ b. not (is_white b)) bytes) (length bytes)
+blank_length [] = 0
+blank_length (b ∷ bs) =
+    if begins (codes "//") (b ∷ bs) then unwrap_or (position (λ b. b == 10) (b ∷ bs)) (length (b ∷ bs))
+    else if begins (codes "/*") (b ∷ bs) then comment_length (b ∷ bs)
+    else if is_white b then 1
+    else 0
 
 -- a token ends: white space or a comment begins
 abbrev pub ends_token : List ℕ → Bool
@@ -53,8 +55,8 @@ pub record Token : Type 0 where
   pub at : ℕ
   pub bytes : List ℕ
 
--- The tokens of bytes, the first of which is at an offset. Each byte begins white space, a comment or a token, or belongs to what
--- began before it, as so many bytes at the front do.
+-- The tokens of bytes, the first of which is at an offset. Each byte is white, or begins a comment or a token, or belongs to what began
+-- before it, as so many bytes at the front do.
 abbrev pub tokens_from : ℕ → ℕ → List ℕ → List Token
 tokens_from at begun [] = []
 tokens_from at (suc begun) (b ∷ bs) = tokens_from (at + 1) begun bs

@@ -1,4 +1,4 @@
-ghost use Rattle.std.specs.Prelude.{◌≡◌, ◌≤◌, ◌<◌, ◌+◌, ◌-◌, ◌^◌, ◌⊎◌, ◌==◌, ◌∷◌, [], ℕ, not, position, length, take, drop, IfOk, IfErr, IfSome, All};
+ghost use Rattle.std.specs.Prelude.{◌≡◌, ◌≤◌, ◌<◌, ◌+◌, ◌-◌, ◌^◌, ◌⊎◌, ◌==◌, ◌∷◌, [], ℕ, position, length, take, drop, IfOk, IfErr, IfSome, All};
 ghost use Rattle.std.specs.Option.{option_map_or};
 ghost use Rattle.xif_image.specs.Image.{IsWithin};
 ghost use Rattle.xif_image.specs.Text.{is_white, comment_length, blank_length, ends_token, token_length, length_before, Token, tokens_from, tokens_of, address_in, item_of, placed_by};
@@ -70,8 +70,9 @@ fn next_token(bytes: &[u8], at: usize) -> Option<(usize, usize)>
     None
 }
 
-/// The number of bytes of white space or of one comment at the front.
+/// The number of bytes of a white byte or a comment at the front.
 fn blank_length(bytes: &[u8]) -> usize
+    requires { 0 < length bytes.now }
     ensures within { result ≤ length bytes.now }
     ensures length { result ≡ blank_length bytes.now }
 {
@@ -80,7 +81,7 @@ fn blank_length(bytes: &[u8]) -> usize
     } else if bytes.starts_with(b"/*") {
         comment_length(bytes)
     } else {
-        no_white(bytes).unwrap_or(bytes.len())
+        usize::from(is_white(bytes[0]))
     }
 }
 
@@ -88,12 +89,6 @@ fn line_feed(bytes: &[u8]) -> Option<usize>
     ensures { result ≡ position (λ b. b == 10) bytes.now }
 {
     bytes.iter().position(|b| *b == b'\n')
-}
-
-fn no_white(bytes: &[u8]) -> Option<usize>
-    ensures { result ≡ position (λ b. not (is_white b)) bytes.now }
-{
-    bytes.iter().position(|b| !is_white(*b))
 }
 
 /// The number of bytes of the comment from `/*` on, through its `*/`: 0 where it is open.
