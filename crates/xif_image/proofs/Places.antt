@@ -19,7 +19,7 @@ with_front_more front byte (Ok bytes) = ap (λ bs. Ok bs) (sym (append_assoc fro
 with_front_more front byte (Err fault) = refl
 
 -- a token is a byte of the memory
-placed_byte : (base size address value : ℕ) (token : Token) (tokens : List Token) → item_of token.bytes ≡ Some (Byte value) → IsWithin base size address
+pub placed_byte : (base size address value : ℕ) (token : Token) (tokens : List Token) → item_of token.bytes ≡ Some (Byte value) → IsWithin base size address
     → placed_by base size address (token ∷ tokens) ≡ with_first (record { address = address; value = value }) (placed_by base size (address + 1) tokens)
 placed_byte base size address value token tokens says within =
     let inside : is_within base size address ≡ true = grind (arith, nat_tests, within.0, within.1) in

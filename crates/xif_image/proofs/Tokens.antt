@@ -43,14 +43,14 @@ tokens_after at (suc n) b bs h =
     ap (λ m. tokens_from (at + 1) m bs) less ∙ tokens_passed (at + 1) n bs ∙ ap (λ m. tokens_from m 0 (drop n bs)) next
 
 -- white space or a comment is at the front
-tokens_blank : (at : ℕ) (bytes : List ℕ) → 0 < length bytes → 0 < blank_length bytes → tokens_from at 0 bytes ≡ tokens_from (at + blank_length bytes) 0 (drop (blank_length bytes) bytes)
+pub tokens_blank : (at : ℕ) (bytes : List ℕ) → 0 < length bytes → 0 < blank_length bytes → tokens_from at 0 bytes ≡ tokens_from (at + blank_length bytes) 0 (drop (blank_length bytes) bytes)
 tokens_blank at [] some h = absurd (omega (arith, some))
 tokens_blank at (b ∷ bs) some h =
     cond-true (nat_lt 0 (blank_length (b ∷ bs))) (tokens_from (at + 1) (blank_length (b ∷ bs) - 1) bs) _ (lt-ltb 0 (blank_length (b ∷ bs)) h)
     ∙ tokens_after at (blank_length (b ∷ bs)) b bs h
 
 -- a token is at the front
-tokens_token : (at : ℕ) (bytes : List ℕ) → 0 < length bytes → blank_length bytes ≡ 0 → tokens_from at 0 bytes ≡ record { at = at; bytes = take (token_length bytes) bytes } ∷ tokens_from (at + token_length bytes) 0 (drop (token_length bytes) bytes)
+pub tokens_token : (at : ℕ) (bytes : List ℕ) → 0 < length bytes → blank_length bytes ≡ 0 → tokens_from at 0 bytes ≡ record { at = at; bytes = take (token_length bytes) bytes } ∷ tokens_from (at + token_length bytes) 0 (drop (token_length bytes) bytes)
 tokens_token at [] some h = absurd (omega (arith, some))
 tokens_token at (b ∷ bs) some h =
     let token : Token = record { at = at; bytes = take (token_length (b ∷ bs)) (b ∷ bs) } in
