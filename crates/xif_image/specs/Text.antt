@@ -76,7 +76,8 @@ are_digits bytes = list_all (λ b. is_digit b 16) bytes
 
 -- the address that one to eight hex digits spell
 abbrev pub address_in : List ℕ → Option ℕ
-address_in digits = if (nat_lt 0 (length digits) && nat_le (length digits) 8) && are_digits digits then Some (digits_value 16 digits) else None
+address_in digits =
+    if (nat_lt 0 (length digits) && nat_le (length digits) 8) && are_digits digits then Some (digits_value 16 digits) else None
 
 -- the byte that two hex digits spell
 abbrev pub byte_in : List ℕ → Option ℕ
@@ -93,7 +94,8 @@ with_first byte (Err fault) = Err fault
 
 -- What the token at an offset places, where the next byte has an address: nothing at a new address, or one byte, and then what the
 -- tokens after it place from the next address on. A token that says nothing is a fault, and so is a byte outside the memory.
-abbrev pub placed_with : ℕ → ℕ → ℕ → ℕ → Option Item → (ℕ → Result (List ByteAt) ImageFault) → Result (List ByteAt) ImageFault
+abbrev pub placed_with : ℕ → ℕ → ℕ → ℕ → Option Item → (ℕ → Result (List ByteAt) ImageFault)
+    → Result (List ByteAt) ImageFault
 placed_with base size address at None after = Err (BadToken at)
 placed_with base size address at (Some (Address next)) after = after next
 placed_with base size address at (Some (Byte value)) after =

@@ -84,7 +84,8 @@ impl Image {
         ensures image { IfOk result (λ image. image ≡ record { base = base; size = size; bytes = bytes_from load bytes.now }) }
         ensures inside { OnOk result (EachIndex bytes.now (λ i. IsWithin base size (load + i))) }
         ensures outside { (at : ℕ) → result ≡ Err (ImageFault.Outside at) → IsFirstOutside base size load (length bytes.now) at }
-        ensures fault { IfErr result (λ fault. (fault ≡ ImageFault.NoMemory) ⊎ ((at : ℕ) × (fault ≡ ImageFault.Outside at))) }
+        ensures fault { IfErr result (λ fault.
+            (fault ≡ ImageFault.NoMemory) ⊎ ((at : ℕ) × (fault ≡ ImageFault.Outside at))) }
     {
         let mut placed = Vec::with_capacity(alloc, bytes.len())?;
         for (at, value) in bytes.iter().enumerate() {
@@ -113,7 +114,8 @@ impl Image {
         requires { base + size ≤ 2 ^ 32 }
         ensures image { IfOk result (λ image. text_image base size bytes.now ≡ Ok image) }
         ensures memory { IfOk result (λ image. (image.base ≡ base) × (image.size ≡ size)) }
-        ensures fault { IfErr result (λ fault. (fault ≡ ImageFault.NoMemory) ⊎ (text_image base size bytes.now ≡ Err fault)) }
+        ensures fault { IfErr result (λ fault.
+            (fault ≡ ImageFault.NoMemory) ⊎ (text_image base size bytes.now ≡ Err fault)) }
     {
         let placed = read(alloc, bytes, base, size)?;
         if placed.is_empty() {

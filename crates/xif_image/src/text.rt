@@ -23,9 +23,11 @@ pub(crate) fn read(
     size: u32,
 ) -> Result<Vec<ByteAt>, ImageFault>
     requires { base + size ≤ 2 ^ 32 }
-    ensures placed { IfOk result (λ placed. placed_by base size base (tokens_of bytes.now) ≡ Ok placed.items) }
+    ensures placed { IfOk result (λ placed.
+        placed_by base size base (tokens_of bytes.now) ≡ Ok placed.items) }
     ensures within { IfOk result (λ placed. All (λ b. IsWithin base size b.address) placed.items) }
-    ensures fault { IfErr result (λ fault. (fault ≡ ImageFault.NoMemory) ⊎ (placed_by base size base (tokens_of bytes.now) ≡ Err fault)) }
+    ensures fault { IfErr result (λ fault.
+        (fault ≡ ImageFault.NoMemory) ⊎ (placed_by base size base (tokens_of bytes.now) ≡ Err fault)) }
 {
     let mut placed = Vec::new(alloc);
     // The next byte stands so many bytes behind the last address that was set.
@@ -55,9 +57,12 @@ pub(crate) fn read(
 /// Where the first token from an offset on begins and ends.
 fn next_token(bytes: &[u8], at: usize) -> Option<(usize, usize)>
     requires { at ≤ length bytes.now }
-    ensures within { IfSome result (λ ends. (at ≤ ends.0) × (ends.0 < ends.1) × (ends.1 ≤ length bytes.now)) }
+    ensures within { IfSome result (λ ends.
+        (at ≤ ends.0) × (ends.0 < ends.1) × (ends.1 ≤ length bytes.now)) }
     ensures token { tokens_from at 0 (drop at bytes.now)
-        ≡ option_map_or (λ ends. record { at = ends.0; bytes = take (ends.1 - ends.0) (drop ends.0 bytes.now) } ∷ tokens_from ends.1 0 (drop ends.1 bytes.now)) result [] }
+        ≡ option_map_or (λ ends.
+        record { at = ends.0; bytes = take (ends.1 - ends.0) (drop ends.0 bytes.now) }
+        ∷ tokens_from ends.1 0 (drop ends.1 bytes.now)) result [] }
 {
     let mut start = at;
     while start < bytes.len() {
