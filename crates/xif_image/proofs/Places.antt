@@ -38,8 +38,3 @@ byte_step base size load count value token tokens front whole says within so_far
     ∙ sym (with_front_more front byte (placed_by base size (load + count + 1) tokens))
     ∙ ap (with_front front) (sym (placed_byte base size (load + count) value token tokens says within))
     ∙ so_far
-
--- nothing stands before
-pub with_front_none : (read : Result (List ByteAt) ImageFault) → with_front [] read ≡ read
-with_front_none (Ok bytes) = refl
-with_front_none (Err fault) = refl
