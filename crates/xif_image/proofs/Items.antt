@@ -9,8 +9,8 @@ use Rattle.std.specs.Cmp.Lexicographic.{pointwise}
 use Rattle.hex.specs.declared.error.FromHexError.{FromHexError}
 use Rattle.hex.specs.Hex.{hex_digit_value, digit_or_error, decode_pairs, decode_sized, ◌>>=◌}
 use Rattle.hex.proofs.HexLemmas.{decode_sized-ok}
-use Rattle.xif_image.specs.declared.text.Word.TheVariants.{Byte}
-use Rattle.xif_image.specs.Text.{byte_in, word_of}
+use Rattle.xif_image.specs.declared.text.Item.TheVariants.{Byte}
+use Rattle.xif_image.specs.Text.{byte_in, item_of}
 
 -- seven hex digits or fewer leave room for one more
 pub hex_room : (n i : ℕ) → n < 16 ^ i → i < 8 → n < 268435456
@@ -73,6 +73,6 @@ pub byte_read : (token : List ℕ) (r : Result Unit FromHexError) (out : List �
 byte_read token r out k = byte_joined (decode_sized token 1) r out (byte_in token) (byte_decoded token) k
 
 -- a token without `@` says a byte, if anything
-pub word_of_byte : (token : List ℕ) → pointwise nat_eq (take 1 token) (codes "@") ≡ false → word_of token ≡ option_map Byte (byte_in token)
-word_of_byte [] h = refl
-word_of_byte (b ∷ bs) h = grind (arith, nat_tests)
+pub item_of_byte : (token : List ℕ) → pointwise nat_eq (take 1 token) (codes "@") ≡ false → item_of token ≡ option_map Byte (byte_in token)
+item_of_byte [] h = refl
+item_of_byte (b ∷ bs) h = grind (arith, nat_tests)
