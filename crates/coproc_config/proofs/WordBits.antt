@@ -91,7 +91,7 @@ with_field-below word low len value h k =
     let P : ℕ → Type 0 = λ n. word < 2 ^ n in
     let above : word / 2 ^ (low + len) < 2 ^ (32 - (low + len)) = shr_below word (32 - (low + len)) (low + len) (subst P (sym rest) h) in
     let inside : value % 2 ^ len * 2 ^ low + word % 2 ^ low < 2 ^ low * 2 ^ len =
-        mul-add-lt (value % 2 ^ len) (2 ^ low) (word % 2 ^ low) (2 ^ len) (mod_below value (2 ^ len) (pow_pos len)) (mod_below word (2 ^ low) (pow_pos low)) in
+    mul-add-lt (value % 2 ^ len) (2 ^ low) (word % 2 ^ low) (2 ^ len) (mod_below value (2 ^ len) (pow_pos len)) (mod_below word (2 ^ low) (pow_pos low)) in
     let below : value % 2 ^ len * 2 ^ low + word % 2 ^ low < 2 ^ (low + len) = omega (arith, pow-add 2 low len) in
     let all = mul-add-lt (word / 2 ^ (low + len)) (2 ^ (low + len)) (value % 2 ^ len * 2 ^ low + word % 2 ^ low) (2 ^ (32 - (low + len))) above below in
     omega (arith, all, whole)
