@@ -68,9 +68,3 @@ entry-named units i j unit e lawful found listed =
     each (λ entry. entry_checks (place_of (i, unit) entry)) unit.entries j e (ap first_fault (sym (flat_map-map entry_checks (place_of (i, unit)) (enumerate_from 0 unit.entries))) ∙ of_unit) listed in
     let pass = all-three (bit_and e.matched e.mask == e.matched) (has_accumulator (line e.op).names e.acc unit.accumulators) (has_field (line e.op).names e.low e.len) (fault BadMask i j) (fault BadAccumulator i j) (fault BadField i j) of_entry in
     record { accumulator = pass.1; bits = pass.2 }
-
-pub field-there : (n : Names) (low len : ℕ) → has_field n low len ≡ true → n ≡ names.Field → (0 < len) × (low + len ≤ 32)
-field-there n low len test is =
-    let passes : (nat_lt 0 len && nat_le (low + len) 32) ≡ true = ap (λ n. has_field n low len) (sym is) ∙ test in
-    let both : (nat_lt 0 len ≡ true) × (nat_le (low + len) 32 ≡ true) = and_parts (nat_lt 0 len) (nat_le (low + len) 32) passes in
-    (grind (arith, nat_tests), grind (arith, nat_tests))

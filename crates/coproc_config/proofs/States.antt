@@ -1,6 +1,7 @@
 -- States, and the sets that they are of.
-use Rattle.std.proofs.Common.{◌≡◌, ◌<◌, ◌+◌, ℕ, Bool, true, nat_lt, get_or, List, [], ◌∷◌, ◌++◌, take, length, map, replicate, Option, Some, slice_get, refl, sym, ap, ◌∙◌, arith}
-use Rattle.std.proofs.lemmas.List.{length-replicate, take_more, map-append, length-map, get_or-map}
+use Rattle.std.proofs.Common.{◌≡◌, ◌<◌, ◌+◌, ℕ, Bool, true, nat_lt, get_or, List, [], ◌∷◌, ◌++◌, take, length, map, replicate, Option, Some, slice_get, refl, sym, ap, subst, ◌∙◌, inl, inr, arith}
+use Rattle.std.proofs.lemmas.List.{length-replicate, take_more, map-append, length-map, get_or-map, get_or-set_same, get_or-set_other}
+use Rattle.std.proofs.lemmas.Bool.{cases_eq}
 use Rattle.std.proofs.lemmas.Bool.Decides.{nat_tests}
 use Rattle.std.proofs.Math.Seq.{map-set_same}
 use Rattle.std.proofs.Math.ListN.{set, length-set}
@@ -10,7 +11,7 @@ use Rattle.coproc_config.specs.Set.{UnitTable}
 use Rattle.coproc_config.specs.declared.operation.Names.{Names}
 use Rattle.coproc_config.specs.declared.operation.Names.TheVariants as names
 use Rattle.coproc_config.specs.Check.{has_accumulator}
-use Rattle.coproc_config.specs.State.{zeros, accumulators_of, HasAccumulator, with_accumulator, IsStateOf}
+use Rattle.coproc_config.specs.State.{zeros, accumulators_of, accumulator_of, HasAccumulator, with_accumulator, IsStateOf}
 
 pub IsStateOf-zeros : (units : List UnitTable) → IsStateOf units (zeros units)
 IsStateOf-zeros [] = refl
@@ -53,3 +54,15 @@ accumulator-there units state i unit acc n same found test is =
 pub IsStateOf-with_accumulator : (units : List UnitTable) (state : List (List ℕ)) (i acc value : ℕ) → IsStateOf units state → IsStateOf units (with_accumulator state i acc value)
 IsStateOf-with_accumulator units state i acc value same =
     map-set_same (λ accumulators. length accumulators) state i (set (accumulators_of state i) acc value) [] (length-set (accumulators_of state i) acc value) ∙ same
+
+-- the other accumulators stay
+pub others-with_accumulator : (state : List (List ℕ)) (i acc value u a : ℕ) → i < length state → ¬ ((u ≡ i) × (a ≡ acc)) → accumulator_of (with_accumulator state i acc value) u a ≡ accumulator_of state u a
+others-with_accumulator state i acc value u a h other =
+    elim (cases_eq u i) [
+      | inl same ↦
+          let P : ℕ → Type 0 = λ n. accumulator_of (with_accumulator state i acc value) n a ≡ accumulator_of state n a in
+          subst P (sym same) (
+          ap (λ xs. get_or xs a 0) (get_or-set_same state i (set (accumulators_of state i) acc value) [] h)
+          ∙ get_or-set_other (accumulators_of state i) acc a value 0 (λ e. other (same, e)))
+      | inr apart ↦ ap (λ xs. get_or xs a 0) (get_or-set_other state i u (set (accumulators_of state i) acc value) [] apart)
+    ]

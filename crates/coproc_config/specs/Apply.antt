@@ -1,5 +1,5 @@
 -- What an accepted instruction does.
-use Rattle.std.specs.Prelude.{ℕ, List, slice_index, Option, Some, None}
+use Rattle.std.specs.Prelude.{◌≡◌, ℕ, List, slice_index, Option, Some, None, IsSomeAnd}
 use Rattle.coproc_config.specs.declared.operation.Entry.{Entry}
 use Rattle.coproc_config.specs.declared.operation.Names.{Names}
 use Rattle.coproc_config.specs.declared.operation.Names.TheVariants as names
@@ -50,3 +50,8 @@ applied_by (Some e) unit state lanes = outcome_of e unit state lanes
 -- what the entry that a hit names makes of a state and lanes
 abbrev pub applied : List UnitTable → Hit → List (List ℕ) → List ℕ → Outcome
 applied units hit state lanes = applied_by (entry_at units hit) hit.unit state lanes
+
+-- there is the entry that is named, of this unit, and it names accumulator a of unit u
+abbrev pub NamesAccumulator : Option Entry → ℕ → ℕ → ℕ → Type 0
+NamesAccumulator named unit u a =
+    IsSomeAnd named (λ e. ((line e.op).names ≡ names.Accumulator) × (u ≡ unit) × (a ≡ e.acc))

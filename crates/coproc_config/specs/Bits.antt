@@ -40,4 +40,4 @@ signed word = cast_signed w32 word
 
 -- an integer modulo 2^64
 abbrev pub modulo_64 : ℤ → ℕ
-modulo_64 z = unsigned_abs (int_rem_euclid z (pos 18446744073709551616))
+modulo_64 z = unsigned_abs (int_rem_euclid z (pos (2 ^ 64)))

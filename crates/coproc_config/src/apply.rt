@@ -1,10 +1,10 @@
 // What an accepted instruction does.
-ghost use Rattle.std.specs.Prelude.{◌≡◌, ◌<◌, ◌^◌, IfSome, IsSome};
+ghost use Rattle.std.specs.Prelude.{◌≡◌, ◌<◌, ◌^◌, ℕ, IfSome, IsSome};
 ghost use Rattle.coproc_config.specs.Table.{line, write_flags, result_bits};
 ghost use Rattle.coproc_config.specs.Check.{IsLawful};
 ghost use Rattle.coproc_config.specs.Accept.{entry_at};
-ghost use Rattle.coproc_config.specs.State.{IsStateOf};
-ghost use Rattle.coproc_config.specs.Apply.{applied};
+ghost use Rattle.coproc_config.specs.State.{accumulator_of, IsStateOf};
+ghost use Rattle.coproc_config.specs.Apply.{applied, NamesAccumulator};
 
 use crate::accept::Hit;
 use crate::compute::Operands;
@@ -22,6 +22,8 @@ impl Set {
         requires state { IsStateOf self.now state.old }
         ensures result { result ≡ (applied self.now hit.now state.old operands.now.lanes).result }
         ensures state { state.new ≡ (applied self.now hit.now state.old operands.now.lanes).state }
+        ensures others { (u a : ℕ) → ¬ NamesAccumulator (entry_at self.now hit.now) hit.now.unit u a →
+            accumulator_of state.new u a ≡ accumulator_of state.old u a }
         ensures bits { IfSome (entry_at self.now hit.now)
             (λ entry. result < 2 ^ result_bits (write_flags (line entry.op).writes)) }
         ensures fits { IsStateOf self.now state.new }

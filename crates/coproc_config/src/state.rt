@@ -1,5 +1,5 @@
 // The accumulators of all units.
-ghost use Rattle.std.specs.Prelude.{◌≡◌, ◌<◌, length, map, replicate, slice_set, slice_index, IfOk};
+ghost use Rattle.std.specs.Prelude.{◌≡◌, ◌<◌, ℕ, length, map, replicate, slice_set, slice_index, IfOk};
 ghost use Rattle.coproc_config.specs.State.{zeros, accumulators_of, accumulator_of, HasAccumulator, with_accumulator, IsStateOf};
 
 use crate::set::Set;
@@ -102,7 +102,9 @@ impl UnitState {
     /// Puts a value into one accumulator.
     pub fn put(&mut self, unit: u8, acc: u8, value: u64)
         requires { HasAccumulator self.old unit acc }
-        ensures { self.new ≡ with_accumulator self.old unit acc value }
+        ensures value { self.new ≡ with_accumulator self.old unit acc value }
+        ensures others { (u a : ℕ) → ¬ ((u ≡ unit) × (a ≡ acc)) →
+            accumulator_of self.new u a ≡ accumulator_of self.old u a }
     {
         let accumulators = &mut self.units[usize::from(unit)];
         accumulators.put(acc, value);
