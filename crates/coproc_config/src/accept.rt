@@ -33,6 +33,8 @@ impl Set {
         requires params { IsInRange params.now }
         ensures first { result ≡ hit_of self.now params.now word }
         ensures flags { IfSome result (λ hit. HasFlagsOf (entry_at self.now hit) params.now hit) }
+
+        // A pair is written to an even register.
         ensures pair { IfSome result (λ hit. hit.writeback.0 ≡ 3 → rd_field_of word % 2 ≡ 0) }
     {
         for i in 0..self.len() {
