@@ -1,5 +1,5 @@
 -- The in-order machine (RISC-V Unprivileged ISA, version 20191213, chapters 2 and 7): what one instruction does.
-use Rattle.std.specs.Prelude.{◌+◌, ◌*◌, ◌%◌, ◌^◌, ℕ, Bool, List, Option, Some, None, Result, Ok, Err, slice_index, slice_set, if◌then◌else◌}
+use Rattle.std.specs.Prelude.{◌+◌, ◌*◌, ◌%◌, ◌^◌, ℕ, Bool, List, Option, Some, None, Result, Ok, Err, nat_lt, slice_index, slice_set, if◌then◌else◌, ◌==◌, ◌/◌, ◌∷◌, []}
 use Rattle.rv32_table.specs.declared.rows.Row.{Row}
 use Rattle.rv32_table.specs.declared.rows.Row.TheVariants as row
 use Rattle.rv32_table.specs.declared.instr.Instr.{Instr}
@@ -7,7 +7,13 @@ use Rattle.rv32_table.specs.declared.control.Next.{Next}
 use Rattle.rv32_table.specs.declared.control.Next.TheVariants.{Go, Misaligned}
 use Rattle.rv32_table.specs.Word.{wrapped, sign_extended}
 use Rattle.rv32_table.specs.Table.{Meaning, Computes, Loads, Stores, Jumps, Branches, Fences, Stops, line}
-use Rattle.rv32_table.specs.Instr.{decoded, target_of, value_of, next_of, access_of}
+use Rattle.rv32_table.specs.Instr.{decoded, source_field, target_of, value_of, next_of, access_of}
+use Rattle.xif_base.specs.declared.params.Params.{Params}
+use Rattle.xif_base.specs.Flags.{even_bit, odd_bit}
+use Rattle.coproc_config.specs.declared.accept.Hit.{Hit}
+use Rattle.coproc_config.specs.Set.{UnitTable}
+use Rattle.coproc_config.specs.Accept.{rd_field, hit_of}
+use Rattle.coproc_config.specs.Apply.{Outcome, applied}
 use Rattle.xif_image.specs.declared.memory.MemFault.{MemFault}
 use Rattle.xif_image.specs.declared.memory.MemFault.TheVariants as fault
 use Rattle.xif_image.specs.Region.{Region, word_at, fault_of, loaded, stored}
@@ -20,11 +26,17 @@ use Rattle.inorder_machine.specs.declared.stop.StopCause.TheVariants.{Ecall, Ebr
 use Rattle.inorder_machine.specs.declared.machine.Stepped.{Stepped}
 use Rattle.inorder_machine.specs.declared.machine.Stepped.TheVariants.{Retired, Stop}
 
--- the address of the next instruction, the registers x0 to x31, and the memory
+-- what the words that RV32IM leaves open mean: a set of coprocessor units, and the parameters of the interface
+pub record Extension : Type 0 where
+  pub set : List UnitTable
+  pub params : Params
+
+-- the address of the next instruction, the registers x0 to x31, the memory, and the accumulators of the units
 pub record State : Type 0 where
   pub pc : ℕ
   pub registers : List ℕ
   pub memory : Region
+  pub units : List (List ℕ)
 
 abbrev pub register_of : State → ℕ → ℕ
 register_of s i = slice_index s.registers i
@@ -83,33 +95,91 @@ executed Stops s pc word i a b = Stop (cause_of i.row)
 abbrev pub outcome_of_instr : State → ℕ → ℕ → Instr → Stepped
 outcome_of_instr s pc word i = executed (line i.row).meaning s pc word i (register_of s i.rs1) (register_of s i.rs2)
 
--- a word that is no instruction stops the machine
-abbrev pub decoded_outcome : State → ℕ → ℕ → Option Instr → Stepped
-decoded_outcome s pc word None = Stop Illegal
-decoded_outcome s pc word (Some i) = outcome_of_instr s pc word i
+-- the odd register behind an even one; behind x0 it reads 0
+abbrev pub odd_register_of : State → ℕ → ℕ
+odd_register_of s i = if i == 0 then 0 else register_of s (i + 1)
+
+-- the value of a half of a lane, which is 0 where its flag isn't among those that are read
+abbrev pub half : ℕ → Option ℕ → ℕ → ℕ
+half flags None value = 0
+half flags (Some bit) value = if flags / 2 ^ bit % 2 == 1 then value else 0
+
+-- what a lane carries: in its low half the register of its field, and in its high half the odd one behind that
+abbrev pub lane_of : Params → State → ℕ → ℕ → ℕ → ℕ
+lane_of p s word flags lane =
+    if nat_lt lane p.num_rs
+    then half flags (Some (even_bit p lane)) (register_of s (source_field word lane))
+    + 2 ^ 32 * half flags (odd_bit p lane) (odd_register_of s (source_field word lane))
+    else 0
+
+-- what the lanes carry to an instruction that reads these halves
+abbrev pub lanes_of : Params → State → ℕ → ℕ → List ℕ
+lanes_of p s word flags = lane_of p s word flags 0 ∷ lane_of p s word flags 1 ∷ lane_of p s word flags 2 ∷ []
+
+-- the write of a result: nothing, one register, or a pair; and nothing where rd is x0
+abbrev pub unit_write : ℕ → ℕ → ℕ → Write
+unit_write rd flags value =
+    if rd == 0 then write.None
+    else if flags == 1 then write.One rd (value % 2 ^ 32)
+    else if flags == 3 then write.Pair rd (value % 2 ^ 32) (value / 2 ^ 32)
+    else write.None
+
+-- what the units make of a word that an entry of theirs takes
+abbrev pub unit_outcome : Extension → State → ℕ → Hit → Outcome
+unit_outcome x s word hit = applied x.set hit s.units (lanes_of x.params s word hit.register_read.0)
+
+-- a word that no entry takes stops the machine
+abbrev pub offered_outcome : Extension → State → ℕ → ℕ → Option Hit → Stepped
+offered_outcome x s pc word None = Stop Illegal
+offered_outcome x s pc word (Some hit) =
+    Retired (line_of pc word (unit_write (rd_field word) hit.writeback.0 (unit_outcome x s word hit).result) None)
+
+-- a word that is no instruction of RV32IM is offered to the units
+abbrev pub decoded_outcome : Extension → State → ℕ → ℕ → Option Instr → Stepped
+decoded_outcome x s pc word None = offered_outcome x s pc word (hit_of x.set x.params word)
+decoded_outcome x s pc word (Some i) = outcome_of_instr s pc word i
 
 -- what becomes of the instruction at an address, whose word is this one, or none where the memory has none there: it stops the machine, or retires with a line
-abbrev pub outcome_at : State → ℕ → Option ℕ → Stepped
-outcome_at s pc None = Stop FetchOutside
-outcome_at s pc (Some word) = decoded_outcome s pc word (decoded word)
+abbrev pub outcome_at : Extension → State → ℕ → Option ℕ → Stepped
+outcome_at x s pc None = Stop FetchOutside
+outcome_at x s pc (Some word) = decoded_outcome x s pc word (decoded word)
 
 -- what becomes of the next instruction
-abbrev pub outcome_of : State → Stepped
-outcome_of s = outcome_at s s.pc (word_at s.memory s.pc)
+abbrev pub outcome_of : Extension → State → Stepped
+outcome_of x s = outcome_at x s s.pc (word_at s.memory s.pc)
 
 abbrev pub registers_after : List ℕ → Write → List ℕ
 registers_after registers write.None = registers
 registers_after registers (write.One rd value) = slice_set registers rd value
+registers_after registers (write.Pair rd low high) = slice_set (slice_set registers rd low) (rd + 1) high
 
 abbrev pub memory_after : Region → Option Store → Region
 memory_after m None = m
 memory_after m (Some store) = stored m store.addr store.width store.value
 
+abbrev pub units_offered : Extension → State → ℕ → Option Hit → List (List ℕ)
+units_offered x s word None = s.units
+units_offered x s word (Some hit) = (unit_outcome x s word hit).state
+
+-- the accumulators after a word that retired: only a word that is offered to the units changes them
+abbrev pub units_after : Extension → State → ℕ → Option Instr → List (List ℕ)
+units_after x s word None = units_offered x s word (hit_of x.set x.params word)
+units_after x s word (Some i) = s.units
+
+-- a state moved on by a line, with these accumulators
+abbrev pub moved : State → Retire → List (List ℕ) → State
+moved s l units = record {
+  pc = l.next;
+  registers = registers_after s.registers l.write;
+  memory = memory_after s.memory l.store;
+  units = units;
+}
+
 -- the state after an instruction that retired with this line
-abbrev pub taken : State → Retire → State
-taken s l = record { pc = l.next; registers = registers_after s.registers l.write; memory = memory_after s.memory l.store }
+abbrev pub taken : Extension → State → Retire → State
+taken x s l = moved s l (units_after x s l.word (decoded l.word))
 
 -- the state after a step; only a retired instruction changes it
-abbrev pub state_after : State → Stepped → State
-state_after s (Retired l) = taken s l
-state_after s (Stop cause) = s
+abbrev pub state_after : Extension → State → Stepped → State
+state_after x s (Retired l) = taken x s l
+state_after x s (Stop cause) = s

@@ -16,6 +16,8 @@ pub struct Retire {
 pub enum Write {
     None,
     One { rd: u8, value: u32 },
+    /// The even register `rd` gets `low`, and the odd one behind it `high`.
+    Pair { rd: u8, low: u32, high: u32 },
 }
 
 /// What an instruction writes to memory: the lowest `width` bytes of a value, the others of which

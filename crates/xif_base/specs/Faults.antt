@@ -8,3 +8,8 @@ raised n = min (n + 1) (2 ^ 64 - 1)
 -- a count rose, or stands at its last value
 abbrev pub Rose : ℕ → ℕ → Type 0
 Rose before now = raised before ≤ now
+
+-- the counts of a shelf: how many fetches failed, and how many starts and appends
+pub record Counts : Type 0 where
+  pub fetches : ℕ
+  pub writes : ℕ

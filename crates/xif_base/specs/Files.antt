@@ -1,5 +1,5 @@
--- The files of a shelf, and what a call copies of them.
-use Rattle.std.specs.Prelude.{◌≡◌, ◌≤◌, ◌<◌, ◌-◌, ℕ, List, length, take, drop, Option, Some, None}
+-- The files of a shelf, what a call copies of them, and what it makes of them.
+use Rattle.std.specs.Prelude.{◌≡◌, ◌≤◌, ◌<◌, ◌-◌, ◌++◌, ℕ, List, length, take, drop, Option, Some, None}
 use Rattle.std.specs.Option.{option_map}
 use Rattle.std.specs.Ordering.{nat_cmp}
 use Rattle.std.specs.Cmp.Lexicographic.{slice_cmp}
@@ -26,3 +26,15 @@ pub record Copies (bytes : List ℕ) (at n : ℕ) (buf : List ℕ) : Type 0 wher
   pub inside : n ≤ length bytes - at
   pub same : take n buf ≡ take n (drop at bytes)
   pub some : n ≡ 0 → 0 < length buf → length bytes ≤ at
+
+-- the files with a piece at the end of the one of a name, where there is one
+abbrev pub appended_to : Option (List ℕ) → Files → List ℕ → List ℕ → Files
+appended_to None files name piece = files
+appended_to (Some bytes) files name piece = map.insert files name (bytes ++ piece)
+
+abbrev pub appended : Files → List ℕ → List ℕ → Files
+appended files name piece = appended_to (map.get files name) files name piece
+
+-- told files changed so; files that aren't told stay untold
+abbrev pub Becomes : (before after : Option Files) → (Files → Files) → Type 0
+Becomes before after change = after ≡ option_map change before

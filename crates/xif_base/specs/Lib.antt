@@ -4,3 +4,6 @@ pub mod Output
 pub mod Calls
 pub mod MemoryShelf
 pub mod MemoryOutput
+pub mod Checks
+pub mod Params
+pub mod Flags

@@ -6,9 +6,9 @@ ghost use Rattle.xif_base.specs.Faults.{raised};
 
 use crate::count::FaultCount;
 use crate::{Failed, Out, Shelf, WriteFail};
-use std::fs::{File, Files};
+use std::fs::{File, Files, OpenOptions};
 use std::io;
-use std::io::{Print, Read, Seek, SeekFrom};
+use std::io::{Print, Read, Seek, SeekFrom, Write};
 use std::marker::Model;
 
 /// The files of a disk. It tells nothing of them.
@@ -16,25 +16,27 @@ use std::marker::Model;
 pub struct DiskShelf<R> {
     files: R,
     fetch_faults: FaultCount,
+    write_faults: FaultCount,
 }
 
-/// Its count of faults.
+/// Its counts of faults.
 impl<R> Model for DiskShelf<R> {
-    ghost use Rattle.std.specs.Prelude.{ℕ};
+    ghost use Rattle.xif_base.specs.Faults.{Counts};
 
-    ghost Value = { ℕ };
+    ghost Value = { Counts };
 
-    ghost view = { λ s. s.fetch_faults };
+    ghost view = { λ s. record { fetches = s.fetch_faults; writes = s.write_faults } };
 }
 
 impl<R: Files + Drop> DiskShelf<R> {
     /// A shelf over the files that `rt` opens.
     pub fn new(rt: R) -> DiskShelf<R>
-        ensures no_fault { result ≡ 0 }
+        ensures no_fault { result ≡ record { fetches = 0; writes = 0 } }
     {
         DiskShelf {
             files: rt,
             fetch_faults: FaultCount::new(),
+            write_faults: FaultCount::new(),
         }
     }
 }
@@ -44,7 +46,9 @@ impl<R: Files + Drop> Shelf for DiskShelf<R> {
 
     ghost files = { λ _. None };
 
-    ghost fetch_faults = { λ s. s };
+    ghost fetch_faults = { λ s. s.fetches };
+
+    ghost write_faults = { λ s. s.writes };
 
     fn fetch(&mut self, name: &str, at: u64, buf: &mut [u8]) -> Result<usize, Failed>
         ensures bound { ReadsAtMost result buf.new }
@@ -52,8 +56,9 @@ impl<R: Files + Drop> Shelf for DiskShelf<R> {
         // The count rises at each failure, a missing file too, and only there.
         ensures counted { MatchResult result
             (λ _. self.new ≡ self.old)
-            (λ _. self.new ≡ raised self.old) }
-        ensures count { self.old ≤ self.new }
+            (λ _. self.new ≡ record self.old { fetches = raised self.old.fetches }) }
+        ensures count { self.old.fetches ≤ self.new.fetches }
+        ensures writes { self.new.writes ≡ self.old.writes }
     {
         if buf.is_empty() {
             return Ok(0);
@@ -66,6 +71,53 @@ impl<R: Files + Drop> Shelf for DiskShelf<R> {
             }
         }
     }
+
+    fn start(&mut self, name: &str) -> Result<(), WriteFail>
+        // The count rises at each failure, of which none is want of memory, and only there.
+        ensures counted { MatchResult result
+            (λ _. self.new ≡ self.old)
+            (λ _. self.new ≡ record self.old { writes = raised self.old.writes }) }
+        ensures count { self.old.writes ≤ self.new.writes }
+        ensures fetches { self.new.fetches ≡ self.old.fetches }
+        ensures never_memory { result ≢ Err WriteFail.NoMemory }
+    {
+        match File::create(&self.files, name) {
+            Ok(_) => Ok(()),
+            Err(_) => {
+                self.write_faults.raise();
+                Err(WriteFail::Failed)
+            }
+        }
+    }
+
+    fn append(&mut self, name: &str, piece: &[u8]) -> Result<usize, WriteFail>
+        ensures bound { WritesAtMost result piece.now }
+        ensures some { IfOk result (λ n. 0 < length piece.now → 0 < n) }
+
+        // The count rises at each failure, a missing file too, and only there.
+        ensures counted { MatchResult result
+            (λ _. self.new ≡ self.old)
+            (λ _. self.new ≡ record self.old { writes = raised self.old.writes }) }
+        ensures count { self.old.writes ≤ self.new.writes }
+        ensures fetches { self.new.fetches ≡ self.old.fetches }
+        ensures never_memory { result ≢ Err WriteFail.NoMemory }
+    {
+        match write_to(&self.files, name, piece) {
+            Ok(count) if count > 0 || piece.is_empty() => Ok(count),
+            _ => {
+                self.write_faults.raise();
+                Err(WriteFail::Failed)
+            }
+        }
+    }
+}
+
+/// Writes once to the end of a file that is there, which is opened anew for it.
+fn write_to<R: Files>(files: &R, name: &str, piece: &[u8]) -> io::Result<usize>
+    ensures bound { WritesAtMost result piece.now }
+{
+    let mut file = OpenOptions::new().append(true).open(files, name)?;
+    file.write(piece)
 }
 
 /// Reads once from a file, which is opened anew for it.

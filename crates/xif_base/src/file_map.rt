@@ -1,5 +1,7 @@
 // Files in memory, by name.
-ghost use Rattle.std.specs.Prelude.{◌≡◌, OnOk, OnErr, IfOk};
+ghost use Rattle.std.specs.Prelude.{◌≡◌, OnOk, OnErr, IsSome};
+ghost use Rattle.xif_base.specs.Files.{appended};
+ghost use Rattle.xif_base.specs.MemoryShelf.{files_of};
 ghost use Rattle.std.specs.Option.{option_map};
 ghost use Rattle.std.specs.FinMap as map;
 
@@ -54,5 +56,32 @@ impl FileMap {
         let value = Vec::from_slice(self.alloc, bytes)?;
         self.files.insert(key, value)?;
         Ok(())
+    }
+
+    /// Adds a piece to the end of a file that is there.
+    pub(crate) fn append(&mut self, name: &str, piece: &[u8]) -> Result<(), NoMemory>
+        requires { IsSome (map.get self.old name.now) }
+        ensures ok { OnOk result (self.new ≡ appended self.old name.now piece.now) }
+        ensures err { OnErr result (self.new ≡ self.old) }
+    {
+        append_to(&mut self.files, name, piece)
+    }
+}
+
+fn append_to(
+    files: &mut BTreeMap<String, Vec<u8>>,
+    name: &str,
+    piece: &[u8],
+) -> Result<(), NoMemory>
+    requires { IsSome (map.get (files_of files.old) name.now) }
+    ensures ok { OnOk result (files_of files.new ≡ appended (files_of files.old) name.now piece.now) }
+    ensures err { OnErr result (files_of files.new ≡ files_of files.old) }
+{
+    match files.get_mut(name) {
+        Some(bytes) => match bytes.extend_from_slice(piece) {
+            Ok(()) => Ok(()),
+            Err(_) => Err(NoMemory),
+        },
+        None => unreachable!(),
     }
 }

@@ -1,26 +1,29 @@
 // A shelf in memory, whose calls move as few bytes and fail as often as its owner says.
-ghost use Rattle.std.specs.Prelude.{◌≡◌, ◌≤◌, ◌-◌, ◌++◌, ◌↔◌, ◌⊎◌, ℕ, List, [], Some, None, length, take, drop, min, IfOk, OnOk, OnErr, IsErr, IsSome, IsTrue};
-ghost use Rattle.std.specs.Io.{ReadsAtMost};
+ghost use Rattle.std.specs.Prelude.{◌≡◌, ◌≢◌, ◌≤◌, ◌<◌, ◌-◌, ◌++◌, ◌↔◌, ◌⊎◌, ℕ, List, [], Some, None, length, take, drop, min, IfOk, OnOk, OnErr, IsErr, IsErrOf, IsSome, IsTrue, MatchResult};
+ghost use Rattle.std.specs.Io.{ReadsAtMost, WritesAtMost};
 ghost use Rattle.std.specs.Option.{option_map};
 ghost use Rattle.std.specs.FinMap as map;
 ghost use Rattle.xif_base.specs.Faults.{Rose};
-ghost use Rattle.xif_base.specs.Files.{IsMissing, HasBytes, Copies};
+ghost use Rattle.xif_base.specs.Files.{IsMissing, HasBytes, Copies, appended, Becomes};
 ghost use Rattle.xif_base.specs.Calls.{is_failing};
-ghost use Rattle.xif_base.specs.MemoryShelf.{new_shelf, after_fetch};
+ghost use Rattle.xif_base.specs.MemoryShelf.{new_shelf, IsFaultless, after_fetch, after_start, after_append};
 
 use crate::count::{FailingCalls, FaultCount};
 use crate::file_map::FileMap;
-use crate::{Failed, NoMemory, Shelf};
+use crate::{Failed, NoMemory, Shelf, WriteFail};
 use std::alloc::Global;
 use std::marker::Model;
 
-/// Files in memory. A fetch moves at most `grain` bytes.
+/// Files in memory. A fetch or an append moves at most `grain` bytes.
 #[derive(Drop)]
 pub struct MemShelf {
     files: FileMap,
     grain: usize,
     fetches: FailingCalls,
+    starts: FailingCalls,
+    appends: FailingCalls,
     fetch_faults: FaultCount,
+    write_faults: FaultCount,
 }
 
 impl Model for MemShelf {
@@ -35,24 +38,36 @@ impl Model for MemShelf {
       files = s.files;
       grain = s.grain;
       fetches = s.fetches;
+      starts = s.starts;
+      appends = s.appends;
       fetch_faults = s.fetch_faults;
+      write_faults = s.write_faults;
     } };
 
     ghost invariant = { λ s. 1 ≤ s.grain };
 }
 
 impl MemShelf {
-    /// A shelf with no files. `fetches` has the numbers, from 0, of the fetches that fail.
-    /// A fetch of a file that isn't there has no number.
-    pub fn new(alloc: Global, grain: usize, fetches: &[u64]) -> Result<MemShelf, NoMemory>
+    /// A shelf with no files. The three lists have the numbers, from 0, of the calls of each kind that
+    /// fail. A fetch or an append of a file that isn't there has no number.
+    pub fn new(
+        alloc: Global,
+        grain: usize,
+        fetches: &[u64],
+        starts: &[u64],
+        appends: &[u64],
+    ) -> Result<MemShelf, NoMemory>
         requires { 1 ≤ grain }
-        ensures { IfOk result (λ s. s ≡ new_shelf grain fetches.now) }
+        ensures { IfOk result (λ s. s ≡ new_shelf grain fetches.now starts.now appends.now) }
     {
         Ok(MemShelf {
             files: FileMap::new(alloc),
             grain,
             fetches: FailingCalls::new(alloc, fetches)?,
+            starts: FailingCalls::new(alloc, starts)?,
+            appends: FailingCalls::new(alloc, appends)?,
             fetch_faults: FaultCount::new(),
+            write_faults: FaultCount::new(),
         })
     }
 
@@ -78,7 +93,9 @@ impl Shelf for MemShelf {
 
     ghost fetch_faults = { λ s. s.fetch_faults };
 
-    ghost faultless = { λ s. s.fetches.failing ≡ [] };
+    ghost write_faults = { λ s. s.write_faults };
+
+    ghost faultless = { IsFaultless };
 
     fn fetch(&mut self, name: &str, at: u64, buf: &mut [u8]) -> Result<usize, Failed>
         // A file that isn't there is a failure that has no number and is no fault.
@@ -108,12 +125,11 @@ impl Shelf for MemShelf {
             ⊎ (IsMissing (Some self.old.files) name.now
             × (self.new.fetch_faults ≡ self.old.fetch_faults))) }
         ensures count { self.old.fetch_faults ≤ self.new.fetch_faults }
+        ensures writes { self.new.write_faults ≡ self.old.write_faults }
         ensures files { self.new.files ≡ self.old.files }
-        ensures stays_faultless { self.old.fetches.failing ≡ [] → self.new.fetches.failing ≡ [] }
-        ensures no_fault { self.old.fetches.failing ≡ [] →
-            self.new.fetch_faults ≡ self.old.fetch_faults }
-        ensures only_missing { self.old.fetches.failing ≡ [] →
-            OnErr result (IsMissing (Some self.old.files) name.now) }
+        ensures stays_faultless { IsFaultless self.old → IsFaultless self.new }
+        ensures no_fault { IsFaultless self.old → self.new.fetch_faults ≡ self.old.fetch_faults }
+        ensures only_missing { IsFaultless self.old → OnErr result (IsMissing (Some self.old.files) name.now) }
     {
         let Some(bytes) = self.files.get(name) else {
             return Err(Failed);
@@ -123,6 +139,78 @@ impl Shelf for MemShelf {
             return Err(Failed);
         }
         Ok(copy_front(bytes, at, self.grain, buf))
+    }
+
+    fn start(&mut self, name: &str) -> Result<(), WriteFail>
+        // A start fails exactly where its number is listed, and the count rises there. One that finds
+        // no memory has a number too, and is no fault.
+        ensures fails { (result ≡ Err WriteFail.Failed) ↔ IsTrue (is_failing self.old.starts) }
+        ensures counted { MatchResult result
+            (λ _. self.new ≡ after_start self.old (map.insert self.old.files name.now []))
+            (λ _. self.new ≡ after_start self.old self.old.files) }
+
+        // What every shelf does.
+        ensures files { MatchResult result
+            (λ _. Becomes (Some self.old.files) (Some self.new.files) (λ m. map.insert m name.now []))
+            (λ _. self.new.files ≡ self.old.files) }
+        ensures failed { IsErrOf result WriteFail.Failed → Rose self.old.write_faults self.new.write_faults }
+        ensures count { self.old.write_faults ≤ self.new.write_faults }
+        ensures fetches { self.new.fetch_faults ≡ self.old.fetch_faults }
+        ensures stays_faultless { IsFaultless self.old → IsFaultless self.new }
+        ensures no_fault { IsFaultless self.old → self.new.write_faults ≡ self.old.write_faults }
+        ensures only_memory { IsFaultless self.old → result ≢ Err WriteFail.Failed }
+    {
+        if self.starts.fails() {
+            self.write_faults.raise();
+            return Err(WriteFail::Failed);
+        }
+        match self.files.insert(name, &[]) {
+            Ok(()) => Ok(()),
+            Err(NoMemory) => Err(WriteFail::NoMemory),
+        }
+    }
+
+    fn append(&mut self, name: &str, piece: &[u8]) -> Result<usize, WriteFail>
+        // A file that isn't there is a failure that has no number and is no fault.
+        ensures absent { map.get self.old.files name.now ≡ None → result ≡ Err WriteFail.Failed }
+        ensures absent_stays { map.get self.old.files name.now ≡ None → self.new ≡ self.old }
+
+        // An append to a file fails exactly where its number is listed, and the count rises there. One
+        // that finds no memory has a number too, and is no fault.
+        ensures fails { IsSome (map.get self.old.files name.now) →
+            ((result ≡ Err WriteFail.Failed) ↔ IsTrue (is_failing self.old.appends)) }
+        ensures moved { IfOk result (λ n. n ≡ min self.old.grain (length piece.now)) }
+        ensures counted { IsSome (map.get self.old.files name.now) → MatchResult result
+            (λ n. self.new ≡ after_append self.old (appended self.old.files name.now (take n piece.now)))
+            (λ _. self.new ≡ after_append self.old self.old.files) }
+
+        // What every shelf does.
+        ensures bound { WritesAtMost result piece.now }
+        ensures some { IfOk result (λ n. 0 < length piece.now → 0 < n) }
+        ensures files { MatchResult result
+            (λ n. Becomes (Some self.old.files) (Some self.new.files) (λ m. appended m name.now (take n piece.now)))
+            (λ _. self.new.files ≡ self.old.files) }
+        ensures missing { IsMissing (Some self.old.files) name.now → IsErr result }
+        ensures failed { IsErrOf result WriteFail.Failed → Rose self.old.write_faults self.new.write_faults
+            ⊎ (IsMissing (Some self.old.files) name.now × (self.new.write_faults ≡ self.old.write_faults)) }
+        ensures count { self.old.write_faults ≤ self.new.write_faults }
+        ensures fetches { self.new.fetch_faults ≡ self.old.fetch_faults }
+        ensures stays_faultless { IsFaultless self.old → IsFaultless self.new }
+        ensures no_fault { IsFaultless self.old → self.new.write_faults ≡ self.old.write_faults }
+        ensures only_missing { IsFaultless self.old → result ≡ Err WriteFail.Failed → IsMissing (Some self.old.files) name.now }
+    {
+        if self.files.get(name).is_none() {
+            return Err(WriteFail::Failed);
+        }
+        if self.appends.fails() {
+            self.write_faults.raise();
+            return Err(WriteFail::Failed);
+        }
+        let count = self.grain.min(piece.len());
+        match self.files.append(name, &piece[..count]) {
+            Ok(()) => Ok(count),
+            Err(NoMemory) => Err(WriteFail::NoMemory),
+        }
     }
 }
 

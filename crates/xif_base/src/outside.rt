@@ -1,8 +1,9 @@
 // The two traits of the outside, and their errors.
-ghost use Rattle.std.specs.Prelude.{◌≡◌, ◌≢◌, ◌⊎◌, ◌≤◌, ◌<◌, ℕ, List, Option, length, take, IfOk, OnErr, IsErr, IsErrOf, MatchResult};
+ghost use Rattle.std.specs.Prelude.{◌≡◌, ◌≢◌, ◌⊎◌, ◌≤◌, ◌<◌, ℕ, List, [], Option, length, take, IfOk, OnErr, IsErr, IsErrOf, MatchResult};
 ghost use Rattle.std.specs.Io.{ReadsAtMost, WritesAtMost};
 ghost use Rattle.xif_base.specs.Faults.{Rose};
-ghost use Rattle.xif_base.specs.Files.{Files, IsMissing, HasBytes, Copies};
+ghost use Rattle.xif_base.specs.Files.{Files, IsMissing, HasBytes, Copies, appended, Becomes};
+ghost use Rattle.std.specs.FinMap as map;
 ghost use Rattle.xif_base.specs.Output.{grown};
 
 use std::alloc::{AllocError, AllocFailed};
@@ -53,6 +54,9 @@ pub trait Shelf {
     /// How often `fetch` failed. It stands still at its last value.
     ghost fetch_faults: { Self → ℕ };
 
+    /// How often `start` and `append` failed. It stands still at its last value.
+    ghost write_faults: { Self → ℕ };
+
     /// The shelf says that no call of it will ever raise a count.
     ghost faultless: { Self → Type 0 } = { λ _. ⊥ };
 
@@ -68,12 +72,48 @@ pub trait Shelf {
         ensures failed { OnErr result (Rose (fetch_faults self.old) (fetch_faults self.new)
             ⊎ (IsMissing (files self.old) name.now × (fetch_faults self.new ≡ fetch_faults self.old))) }
         ensures count { fetch_faults self.old ≤ fetch_faults self.new }
+        ensures writes { write_faults self.new ≡ write_faults self.old }
         ensures files { files self.new ≡ files self.old }
 
         // A shelf that says it has no faults earns none, and fails only for a name that isn't there.
         ensures stays_faultless { faultless self.old → faultless self.new }
         ensures no_fault { faultless self.old → fetch_faults self.new ≡ fetch_faults self.old }
         ensures only_missing { faultless self.old → OnErr result (IsMissing (files self.old) name.now) };
+
+    /// Makes a file empty, and makes it where it isn't there. Other files stay.
+    fn start(&mut self, name: &str) -> Result<(), WriteFail>
+        ensures files { MatchResult result
+            (λ _. Becomes (files self.old) (files self.new) (λ m. map.insert m name.now []))
+            (λ _. files self.new ≡ files self.old) }
+        ensures failed { IsErrOf result WriteFail.Failed → Rose (write_faults self.old) (write_faults self.new) }
+        ensures count { write_faults self.old ≤ write_faults self.new }
+        ensures fetches { fetch_faults self.new ≡ fetch_faults self.old }
+
+        // A shelf that says it has no faults earns none, and lacks at most memory.
+        ensures stays_faultless { faultless self.old → faultless self.new }
+        ensures no_fault { faultless self.old → write_faults self.new ≡ write_faults self.old }
+        ensures only_memory { faultless self.old → result ≢ Err WriteFail.Failed };
+
+    /// Adds a front of a piece to the end of a file, and answers how many bytes that is: not 0, but
+    /// for an empty piece. Other files stay, and none is made.
+    fn append(&mut self, name: &str, piece: &[u8]) -> Result<usize, WriteFail>
+        ensures bound { WritesAtMost result piece.now }
+        ensures some { IfOk result (λ n. 0 < length piece.now → 0 < n) }
+        ensures files { MatchResult result
+            (λ n. Becomes (files self.old) (files self.new) (λ m. appended m name.now (take n piece.now)))
+            (λ _. files self.new ≡ files self.old) }
+        ensures missing { IsMissing (files self.old) name.now → IsErr result }
+
+        // To ask for a name that isn't there earns nobody a fault, where the shelf tells its files.
+        ensures failed { IsErrOf result WriteFail.Failed → Rose (write_faults self.old) (write_faults self.new)
+            ⊎ (IsMissing (files self.old) name.now × (write_faults self.new ≡ write_faults self.old)) }
+        ensures count { write_faults self.old ≤ write_faults self.new }
+        ensures fetches { fetch_faults self.new ≡ fetch_faults self.old }
+
+        // A shelf that says it has no faults earns none, and fails only for a name that isn't there.
+        ensures stays_faultless { faultless self.old → faultless self.new }
+        ensures no_fault { faultless self.old → write_faults self.new ≡ write_faults self.old }
+        ensures only_missing { faultless self.old → result ≡ Err WriteFail.Failed → IsMissing (files self.old) name.now };
 }
 
 /// A place that bytes are put to, as the standard output.

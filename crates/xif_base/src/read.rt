@@ -61,6 +61,7 @@ pub fn read_all<S: Shelf>(
 
     // The shelf has the same files afterwards, and no fewer faults.
     ensures count { S.fetch_faults shelf.old ≤ S.fetch_faults shelf.new }
+    ensures writes { S.write_faults shelf.new ≡ S.write_faults shelf.old }
     ensures files { S.files shelf.new ≡ S.files shelf.old }
 
     // A shelf that says it has no faults earns none, and fails only where there is no such file.

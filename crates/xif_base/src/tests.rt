@@ -1,15 +1,13 @@
 // Each public call on its happy path, and the calls that are to fail.
 use super::*;
 use std::fs;
-use std::fs::File;
-use std::io::Write;
 use std::test::Fail;
 
 const LETTERS: &[u8] = b"abcdefg";
 
 #[test]
 fn a_shelf_in_memory_fails_by_number_and_moves_by_its_grain(rt: HostRuntime) -> Result<(), Fail> {
-    let mut shelf = MemShelf::new(rt.alloc(), 3, &[1])?;
+    let mut shelf = MemShelf::new(rt.alloc(), 3, &[1], &[], &[])?;
     shelf.insert("letters", LETTERS)?;
     assert_eq!(rt; shelf.bytes("letters"), Some(LETTERS));
     assert_eq!(rt; shelf.bytes("digits"), None);
@@ -38,6 +36,25 @@ fn a_shelf_in_memory_fails_by_number_and_moves_by_its_grain(rt: HostRuntime) -> 
 }
 
 #[test]
+fn a_shelf_in_memory_is_written(rt: HostRuntime) -> Result<(), Fail> {
+    let mut shelf = MemShelf::new(rt.alloc(), 3, &[], &[1], &[2])?;
+    shelf.insert("digits", b"0")?;
+    assert_eq!(rt; shelf.append("letters", b"ab"), Err(WriteFail::Failed));
+    assert_eq!(rt; shelf.bytes("letters"), None);
+    assert_eq!(rt; shelf.start("letters"), Ok(()));
+    assert_eq!(rt; shelf.append("letters", LETTERS), Ok(3));
+    assert_eq!(rt; shelf.append("letters", b"de"), Ok(2));
+    assert_eq!(rt; shelf.append("letters", b"fg"), Err(WriteFail::Failed));
+    assert_eq!(rt; shelf.bytes("letters"), Some(b"abcde".as_slice()));
+    assert_eq!(rt; shelf.start("letters"), Err(WriteFail::Failed));
+    assert_eq!(rt; shelf.bytes("letters"), Some(b"abcde".as_slice()));
+    assert_eq!(rt; shelf.start("letters"), Ok(()));
+    assert_eq!(rt; shelf.bytes("letters"), Some(b"".as_slice()));
+    assert_eq!(rt; shelf.bytes("digits"), Some(b"0".as_slice()));
+    Ok(())
+}
+
+#[test]
 fn a_file_is_read_whole_within_its_limit(rt: HostRuntime) -> Result<(), Fail> {
     let cases: [(&str, &[u64], u64, Result<&[u8], ReadFail>); 6] = [
         ("letters", &[], 7, Ok(LETTERS)),
@@ -48,7 +65,7 @@ fn a_file_is_read_whole_within_its_limit(rt: HostRuntime) -> Result<(), Fail> {
         ("digits", &[], 7, Err(ReadFail::ReadFault)),
     ];
     for (name, fetches, limit, want) in cases {
-        let mut shelf = MemShelf::new(rt.alloc(), 3, fetches)?;
+        let mut shelf = MemShelf::new(rt.alloc(), 3, fetches, &[], &[])?;
         shelf.insert("letters", LETTERS)?;
         shelf.insert("empty", b"")?;
         match read_all(rt.alloc(), &mut shelf, name, limit) {
@@ -76,10 +93,13 @@ fn all_bytes_are_put_or_a_front_of_them(rt: HostRuntime) -> Result<(), Fail> {
 }
 
 #[test]
-fn a_shelf_on_disk_reads_a_file_and_misses_one(rt: HostRuntime) -> Result<(), Fail> {
+fn a_shelf_on_disk_writes_and_reads_a_file_and_misses_one(rt: HostRuntime) -> Result<(), Fail> {
     let path = "/tmp/xif_base_a_shelf_on_disk";
-    File::create(&rt, path)?.write_all(LETTERS)?;
     let mut shelf = DiskShelf::new(&rt);
+    assert_eq!(rt; shelf.append(path, LETTERS), Err(WriteFail::Failed));
+    assert_eq!(rt; shelf.start(path), Ok(()));
+    assert_eq!(rt; shelf.append(path, &LETTERS[..3]), Ok(3));
+    assert_eq!(rt; shelf.append(path, &LETTERS[3..]), Ok(4));
     let read = read_all(rt.alloc(), &mut shelf, path, 7);
     let mut buf = [b'.'; 2];
     let part = shelf.fetch(path, 4, &mut buf);
@@ -89,6 +109,10 @@ fn a_shelf_on_disk_reads_a_file_and_misses_one(rt: HostRuntime) -> Result<(), Fa
     assert_eq!(rt; &buf, b"ef");
     assert_eq!(rt; shelf.fetch(path, 0, &mut buf), Err(Failed));
     assert_eq!(rt; shelf.fetch(path, 0, &mut []), Ok(0));
+    assert_eq!(rt;
+        shelf.start("/no such folder/letters"),
+        Err(WriteFail::Failed)
+    );
     Ok(())
 }
 
@@ -96,4 +120,171 @@ fn a_shelf_on_disk_reads_a_file_and_misses_one(rt: HostRuntime) -> Result<(), Fa
 fn the_standard_output_takes_a_short_piece(rt: HostRuntime) {
     let mut out = StdOut::new(&rt);
     assert_eq!(rt; out.put(b"short\n"), Ok(6));
+}
+
+#[test]
+fn parameters_are_checked_in_the_order_of_their_fields(rt: HostRuntime) {
+    let least = Params {
+        num_rs: 2,
+        id_width: 3,
+        rfr_width: 32,
+        rfw_width: 32,
+        num_harts: 1,
+        hartid_width: 1,
+        dual_read: 0,
+        dual_write: false,
+        split: true,
+    };
+    let most = Params {
+        num_rs: 3,
+        id_width: 12,
+        rfr_width: 64,
+        rfw_width: 64,
+        num_harts: 4,
+        hartid_width: 8,
+        dual_read: 3,
+        dual_write: true,
+        split: false,
+    };
+    let wide = Params {
+        num_harts: 4,
+        hartid_width: 1,
+        dual_read: 3,
+        ..least
+    };
+    for (params, want) in [
+        (least, Ok(())),
+        (most, Ok(())),
+        (Params { num_rs: 1, ..most }, Err(ParamFault::NumRs)),
+        (Params { num_rs: 4, ..most }, Err(ParamFault::NumRs)),
+        (
+            Params {
+                id_width: 2,
+                ..most
+            },
+            Err(ParamFault::IdWidth),
+        ),
+        (
+            Params {
+                id_width: 13,
+                ..most
+            },
+            Err(ParamFault::IdWidth),
+        ),
+        (
+            Params {
+                rfr_width: 33,
+                ..least
+            },
+            Err(ParamFault::RfrWidth),
+        ),
+        (
+            Params {
+                rfr_width: 32,
+                ..most
+            },
+            Err(ParamFault::RfrWidth),
+        ),
+        (
+            Params {
+                rfw_width: 0,
+                ..least
+            },
+            Err(ParamFault::RfwWidth),
+        ),
+        (
+            Params {
+                rfw_width: 32,
+                ..most
+            },
+            Err(ParamFault::RfwWidth),
+        ),
+        (
+            Params {
+                num_harts: 0,
+                ..most
+            },
+            Err(ParamFault::NumHarts),
+        ),
+        (
+            Params {
+                num_harts: 5,
+                ..most
+            },
+            Err(ParamFault::NumHarts),
+        ),
+        (
+            Params {
+                hartid_width: 0,
+                ..most
+            },
+            Err(ParamFault::HartidWidth),
+        ),
+        (
+            Params {
+                hartid_width: 9,
+                ..most
+            },
+            Err(ParamFault::HartidWidth),
+        ),
+        (
+            Params {
+                hartid_width: 1,
+                ..most
+            },
+            Err(ParamFault::HartidWidth),
+        ),
+        (Params { num_rs: 2, ..most }, Err(ParamFault::DualRead)),
+        // Three faults, of which the first is told.
+        (wide, Err(ParamFault::RfrWidth)),
+        (
+            Params {
+                rfr_width: 64,
+                ..wide
+            },
+            Err(ParamFault::HartidWidth),
+        ),
+    ] {
+        assert_eq!(rt; params.check(), want, "at {params:?}");
+    }
+}
+
+#[test]
+fn flags_keys_and_names(rt: HostRuntime) -> Result<(), Fail> {
+    let params = Params {
+        num_rs: 3,
+        id_width: 3,
+        rfr_width: 64,
+        rfw_width: 32,
+        num_harts: 1,
+        hartid_width: 1,
+        dual_read: 2,
+        dual_write: false,
+        split: true,
+    };
+    for (lane, even, odd) in [(0, 0, Some(1)), (1, 2, Some(3)), (2, 4, None)] {
+        assert_eq!(rt; ReadFlags::even_bit(&params, lane), even, "at {lane}");
+        assert_eq!(rt; ReadFlags::odd_bit(&params, lane), odd, "at {lane}");
+    }
+    for bits in [0, 1, 2, 3, 4, 63, 64, 255] {
+        let reads = ReadFlags::from_bits(bits);
+        let writes = WriteFlags::from_bits(bits);
+        assert_eq!(rt;
+            reads.map(|set| set.bits()),
+            if bits < 64 { Some(bits) } else { None }
+        );
+        assert_eq!(rt;
+            writes.map(|set| set.bits()),
+            if bits < 4 { Some(bits) } else { None }
+        );
+    }
+    assert!(rt; ReadFlags::BIT5.contains(ReadFlags::BIT5));
+    assert!(rt; !ReadFlags::BIT5.contains(ReadFlags::BIT4));
+    assert!(rt; (WriteFlags::RD | WriteFlags::NEXT).contains(WriteFlags::NEXT));
+    assert!(rt; !WriteFlags::RD.contains(WriteFlags::NEXT));
+    assert_eq!(rt; Name::of(rt.alloc(), "job.toml")?.as_str(), "job.toml");
+    let key = Key { hart: 0, id: 1 };
+    assert_eq!(rt; key, Key { hart: 0, id: 1 });
+    assert!(rt; key != Key { hart: 1, id: 1 });
+    Ok(())
 }

@@ -1,18 +1,37 @@
 -- What `raw` runs and prints.
-use Rattle.std.specs.Prelude.{ℕ, List, replicate}
-use Rattle.inorder_machine.specs.Machine.{State}
+use Rattle.std.specs.Prelude.{ℕ, List, [], replicate, true, false}
+use Rattle.inorder_machine.specs.Machine.{Extension, State}
 use Rattle.inorder_machine.specs.After.{retired_within, last_within, stop_within}
+use Rattle.xif_base.specs.declared.params.Params.{Params}
 use Rattle.xif_cli.specs.Report.{report_of}
+
+-- parameters for a machine without units, where they don't matter: the least of each
+abbrev pub least_params : Params
+least_params = record {
+  num_rs = 2;
+  id_width = 3;
+  rfr_width = 32;
+  rfw_width = 32;
+  num_harts = 1;
+  hartid_width = 1;
+  dual_read = 0;
+  dual_write = false;
+  split = false;
+}
+
+-- RV32IM alone: there are no units
+abbrev pub no_units : Extension
+no_units = record { set = []; params = least_params }
 
 -- the machine at the start of `raw`: the image's bytes from address 0 on, the first instruction there, and all registers 0
 abbrev pub raw_start : List ℕ → State
-raw_start image = record { pc = 0; registers = replicate 32 0; memory = record { base = 0; bytes = image } }
+raw_start image = record { pc = 0; registers = replicate 32 0; memory = record { base = 0; bytes = image }; units = [] }
 
 -- the report of a run of at most so many retirements
-unfoldable pub run_report : State → ℕ → List ℕ
-run_report start budget =
-    report_of (stop_within budget start) (retired_within budget start) (last_within budget start) start.memory.bytes
+unfoldable pub run_report : Extension → State → ℕ → List ℕ
+run_report x start budget =
+    report_of (stop_within x budget start) (retired_within x budget start) (last_within x budget start) start.memory.bytes
 
 -- what `raw` prints
 unfoldable pub raw_report : List ℕ → ℕ → List ℕ
-raw_report image count = run_report (raw_start image) count
+raw_report image count = run_report no_units (raw_start image) count

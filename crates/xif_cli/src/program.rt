@@ -51,6 +51,7 @@ pub fn xif<S: Shelf, O: Out>(alloc: Global, words: &[String], shelf: &mut S, out
         HasBytes (S.files shelf.old) image bytes → HasPut result (O.put_bytes out.old) (O.put_bytes out.new) (raw_report bytes count)) }
     ensures refusal { IsRefusal result → out.new ≡ out.old }
     ensures files { S.files shelf.new ≡ S.files shelf.old }
+    ensures write_count { S.write_faults shelf.new ≡ S.write_faults shelf.old }
     ensures fetches { S.fetch_faults shelf.old ≤ S.fetch_faults shelf.new }
     ensures puts { O.faults out.old ≤ O.faults out.new }
 

@@ -9,11 +9,25 @@ ghost use Rattle.xif_cli.specs.Run.{raw_report};
 
 use crate::run::{raw_machine, run_report};
 use crate::status::Status;
+use coproc_config::Set;
 use std::alloc::Global;
-use xif_base::{NoMemory, Out, ReadFail, Shelf, Which, WriteFail, put_all, read_all};
+use xif_base::{NoMemory, Out, Params, ReadFail, Shelf, Which, WriteFail, put_all, read_all};
 
 /// The longest image of `raw`, in bytes.
 pub const RAW_LIMIT: u64 = 65_536;
+
+/// The parameters of the interface, which don't matter without units.
+const LEAST_PARAMS: Params = Params {
+    num_rs: 2,
+    id_width: 3,
+    rfr_width: 32,
+    rfw_width: 32,
+    num_harts: 1,
+    hartid_width: 1,
+    dual_read: 0,
+    dual_write: false,
+    split: false,
+};
 
 /// Runs an image at address 0 for at most `count` retirements, and prints the report.
 pub(crate) fn run_raw<S: Shelf, O: Out>(
@@ -44,6 +58,7 @@ pub(crate) fn run_raw<S: Shelf, O: Out>(
         HasPut result (O.put_bytes out.old) (O.put_bytes out.new) (raw_report bytes count) }
     ensures refusal { IsRefusal result → out.new ≡ out.old }
     ensures files { S.files shelf.new ≡ S.files shelf.old }
+    ensures write_count { S.write_faults shelf.new ≡ S.write_faults shelf.old }
     ensures fetches { S.fetch_faults shelf.old ≤ S.fetch_faults shelf.new }
     ensures puts { O.faults out.old ≤ O.faults out.new }
 
@@ -87,6 +102,7 @@ fn report_of_image(alloc: Global, image: &[u8], count: u32) -> Result<String, No
     requires { length image.now ≤ RAW_LIMIT }
     ensures { IfOk result (λ text. string_bytes text ≡ raw_report image.now count) }
 {
-    let machine = raw_machine(alloc, image)?;
-    run_report(alloc, machine, u64::from(count))
+    let set = Set::new(alloc);
+    let machine = raw_machine(alloc, image, &set)?;
+    run_report(alloc, machine, &set, &LEAST_PARAMS, u64::from(count))
 }

@@ -1,18 +1,26 @@
 //! Runs of the in-order machine, and what is printed of them.
-ghost use Rattle.std.specs.Prelude.{◌≡◌, ◌≤◌, ◌^◌, ◌-◌, length, IfOk};
+ghost use Rattle.std.specs.Prelude.{◌≡◌, ◌≤◌, ◌^◌, ◌-◌, [], length, IfOk};
 ghost use Rattle.std.specs.String.{string_bytes};
+ghost use Rattle.xif_base.specs.Params.{IsInRange};
+ghost use Rattle.coproc_config.specs.Check.{IsLawful};
+ghost use Rattle.coproc_config.specs.State.{IsStateOf};
+ghost use Rattle.inorder_machine.specs.Machine.{Extension};
 ghost use Rattle.xif_cli.specs.Run.{raw_start, run_report};
 
 use crate::report::report;
+use coproc_config::{Set, UnitState};
 use inorder_machine::Machine;
 use std::alloc::Global;
-use xif_base::NoMemory;
+use xif_base::{NoMemory, Params};
 use xif_image::{Image, ImageFault, Memory};
 
-/// The machine at the start of `raw`: the image at address 0, where the first instruction is.
-pub(crate) fn raw_machine(alloc: Global, image: &[u8]) -> Result<Machine, NoMemory>
-    requires { length image.now ≤ 2 ^ 32 - 1 }
-    ensures { IfOk result (λ machine. machine ≡ raw_start image.now) }
+/// The machine at the start of `raw`: the image at address 0, where the first instruction is. `set`
+/// is empty.
+pub(crate) fn raw_machine(alloc: Global, image: &[u8], set: &Set) -> Result<Machine, NoMemory>
+    requires short { length image.now ≤ 2 ^ 32 - 1 }
+    requires empty { set.now ≡ [] }
+    ensures start { IfOk result (λ machine. machine ≡ raw_start image.now) }
+    ensures units { IfOk result (λ machine. IsStateOf set.now machine.units) }
 {
     let size = image.len() as u32;
     let mut memory = Memory::new(alloc, 0, size)?;
@@ -21,7 +29,7 @@ pub(crate) fn raw_machine(alloc: Global, image: &[u8]) -> Result<Machine, NoMemo
         Err(ImageFault::NoMemory) => return Err(NoMemory),
         Err(_) => unreachable!(),
     }
-    Ok(Machine::new(memory, 0))
+    Ok(Machine::new(memory, 0, UnitState::new(alloc, set)?))
 }
 
 /// The report of a run of at most `budget` retirements.
@@ -29,11 +37,17 @@ pub(crate) fn raw_machine(alloc: Global, image: &[u8]) -> Result<Machine, NoMemo
 pub(crate) fn run_report(
     alloc: Global,
     mut machine: Machine,
+    set: &Set,
+    params: &Params,
     budget: u64,
 ) -> Result<String, NoMemory>
-    ensures { IfOk result (λ text. string_bytes text ≡ run_report machine budget) }
+    requires lawful { IsLawful set.now }
+    requires params { IsInRange params.now }
+    requires units { IsStateOf set.now machine.units }
+    ensures { let x : Extension = record { set = set.now; params = params.now } in
+        IfOk result (λ text. string_bytes text ≡ run_report x machine budget) }
 {
     let before = Vec::from_slice(alloc, machine.memory().bytes())?;
-    let run = machine.advance(budget);
+    let run = machine.advance(set, params, budget);
     Ok(report(alloc, run.stop, run.retired, &machine, &before)?)
 }

@@ -1,5 +1,5 @@
 -- The tokens of a text, one by one.
-use Rattle.std.proofs.Common.{◌≡◌, ◌<◌, ◌+◌, ◌-◌, ℕ, zero, suc, Bool, true, false, List, [], ◌∷◌, length, get_or, take, drop, refl, ap, sym, ◌∙◌, arith, add-zero, length-drop, nat_lt, if◌then◌else◌}
+use Rattle.std.proofs.Common.{◌≡◌, ◌<◌, ◌+◌, ◌-◌, ℕ, zero, suc, Bool, false, List, [], ◌∷◌, length, get_or, take, drop, refl, ap, sym, ◌∙◌, arith, add-zero, length-drop, nat_lt, if◌then◌else◌}
 use Rattle.std.proofs.lemmas.Bool.{cond-true, lt-ltb}
 use Rattle.std.proofs.lemmas.List.{drop_more, take_rest, drop-drop}
 use Rattle.xif_image.specs.Text.{length_before, blank_length, token_length, Token, tokens_from}
@@ -8,10 +8,6 @@ use Rattle.xif_image.specs.Text.{length_before, blank_length, token_length, Toke
 length_before_next : (test : List ℕ → Bool) (b : ℕ) (bs : List ℕ) → test (b ∷ bs) ≡ false → length_before test (b ∷ bs) ≡ length_before test bs + 1
 length_before_next test b bs h = rw h refl
 
--- the test passes at the first byte
-length_before_stop : (test : List ℕ → Bool) (b : ℕ) (bs : List ℕ) → test (b ∷ bs) ≡ true → length_before test (b ∷ bs) ≡ 0
-length_before_stop test b bs h = rw h refl
-
 -- The bytes from an index on, as a call takes them, are `take (length bytes - i) (drop i bytes)`.
 
 -- the test fails at an index
@@ -19,12 +15,6 @@ pub length_before_more : (test : List ℕ → Bool) (bytes : List ℕ) (i : ℕ)
 length_before_more test bytes i h fails =
     let e : drop i bytes ≡ get_or bytes i 0 ∷ drop (i + 1) bytes = drop_more bytes i 0 h in
     ap (length_before test) e ∙ length_before_next test (get_or bytes i 0) (drop (i + 1) bytes) (sym (ap test (take_rest bytes i ∙ e)) ∙ fails)
-
--- the test passes at an index
-pub length_before_here : (test : List ℕ → Bool) (bytes : List ℕ) (i : ℕ) → i < length bytes → test (take (length bytes - i) (drop i bytes)) ≡ true → length_before test (drop i bytes) ≡ 0
-length_before_here test bytes i h passes =
-    let e : drop i bytes ≡ get_or bytes i 0 ∷ drop (i + 1) bytes = drop_more bytes i 0 h in
-    ap (length_before test) e ∙ length_before_stop test (get_or bytes i 0) (drop (i + 1) bytes) (sym (ap test (take_rest bytes i ∙ e)) ∙ passes)
 
 -- bytes that belong to what stands before them
 tokens_passed : (at passed : ℕ) (bytes : List ℕ) → tokens_from at passed bytes ≡ tokens_from (at + passed) 0 (drop passed bytes)
@@ -43,14 +33,14 @@ tokens_after at (suc n) b bs h =
     ap (λ m. tokens_from (at + 1) m bs) less ∙ tokens_passed (at + 1) n bs ∙ ap (λ m. tokens_from m 0 (drop n bs)) next
 
 -- white space or a comment is at the front
-tokens_blank : (at : ℕ) (bytes : List ℕ) → 0 < length bytes → 0 < blank_length bytes → tokens_from at 0 bytes ≡ tokens_from (at + blank_length bytes) 0 (drop (blank_length bytes) bytes)
+pub tokens_blank : (at : ℕ) (bytes : List ℕ) → 0 < length bytes → 0 < blank_length bytes → tokens_from at 0 bytes ≡ tokens_from (at + blank_length bytes) 0 (drop (blank_length bytes) bytes)
 tokens_blank at [] some h = absurd (omega (arith, some))
 tokens_blank at (b ∷ bs) some h =
     cond-true (nat_lt 0 (blank_length (b ∷ bs))) (tokens_from (at + 1) (blank_length (b ∷ bs) - 1) bs) _ (lt-ltb 0 (blank_length (b ∷ bs)) h)
     ∙ tokens_after at (blank_length (b ∷ bs)) b bs h
 
 -- a token is at the front
-tokens_token : (at : ℕ) (bytes : List ℕ) → 0 < length bytes → blank_length bytes ≡ 0 → tokens_from at 0 bytes ≡ record { at = at; bytes = take (token_length bytes) bytes } ∷ tokens_from (at + token_length bytes) 0 (drop (token_length bytes) bytes)
+pub tokens_token : (at : ℕ) (bytes : List ℕ) → 0 < length bytes → blank_length bytes ≡ 0 → tokens_from at 0 bytes ≡ record { at = at; bytes = take (token_length bytes) bytes } ∷ tokens_from (at + token_length bytes) 0 (drop (token_length bytes) bytes)
 tokens_token at [] some h = absurd (omega (arith, some))
 tokens_token at (b ∷ bs) some h =
     let token : Token = record { at = at; bytes = take (token_length (b ∷ bs)) (b ∷ bs) } in

@@ -1,5 +1,5 @@
 -- Images: bytes with their addresses, and what placing them in a memory makes of it.
-use Rattle.std.specs.Prelude.{◌≤◌, ◌<◌, ◌+◌, ◌-◌, ℕ, List, [], ◌∷◌, slice_set}
+use Rattle.std.specs.Prelude.{◌≤◌, ◌<◌, ◌+◌, ◌-◌, ◌&&◌, ℕ, Bool, List, [], ◌∷◌, nat_le, nat_lt, slice_set}
 use Rattle.xif_image.specs.declared.image.ByteAt.{ByteAt}
 use Rattle.xif_image.specs.Region.{Region}
 
@@ -17,6 +17,10 @@ bytes_from address (value ∷ values) = record { address = address; value = valu
 -- the address is one of the memory's
 abbrev pub IsWithin : ℕ → ℕ → ℕ → Type 0
 IsWithin base size address = (base ≤ address) × (address < base + size)
+
+-- the same as a test
+abbrev pub is_within : ℕ → ℕ → ℕ → Bool
+is_within base size address = nat_le base address && nat_lt address (base + size)
 
 -- of so many bytes in a row, the first whose address isn't one of the memory's
 pub record IsFirstOutside (base size load count at : ℕ) : Type 0 where

@@ -84,7 +84,8 @@ impl Image {
         ensures image { IfOk result (λ image. image ≡ record { base = base; size = size; bytes = bytes_from load bytes.now }) }
         ensures inside { OnOk result (EachIndex bytes.now (λ i. IsWithin base size (load + i))) }
         ensures outside { (at : ℕ) → result ≡ Err (ImageFault.Outside at) → IsFirstOutside base size load (length bytes.now) at }
-        ensures fault { IfErr result (λ fault. (fault ≡ ImageFault.NoMemory) ⊎ ((at : ℕ) × (fault ≡ ImageFault.Outside at))) }
+        ensures fault { IfErr result (λ fault.
+            (fault ≡ ImageFault.NoMemory) ⊎ ((at : ℕ) × (fault ≡ ImageFault.Outside at))) }
     {
         let mut placed = Vec::with_capacity(alloc, bytes.len())?;
         for (at, value) in bytes.iter().enumerate() {
@@ -103,15 +104,18 @@ impl Image {
         })
     }
 
-    /// The bytes of a text, for a memory of `size` bytes from `base` on. Its tokens stand between white
-    /// space and comments, which go from `//` to the end of the line or from `/*` to `*/`. Two hex
-    /// digits are a byte. The first byte stands at `base`, and each other one behind the one before
-    /// it; but `@` with one to eight hex digits is the address of the next byte.
+    /// The bytes of a text, for a memory of `size` bytes from `base` on. The text is that of
+    /// `$readmemh` (IEEE 1364, 17.2.9), of bytes alone. Its tokens stand between white space and
+    /// comments, which go from `//` to the end of the line or from `/*` to `*/`. Two hex digits are a
+    /// byte. The first byte stands at `base`, and each other one behind the one before it; but `@`
+    /// with one to eight hex digits is the address of the next byte. Nothing else is a token: an open
+    /// comment is a fault at its first byte.
     pub fn text(alloc: Global, bytes: &[u8], base: u32, size: u32) -> Result<Image, ImageFault>
         requires { base + size ≤ 2 ^ 32 }
         ensures image { IfOk result (λ image. text_image base size bytes.now ≡ Ok image) }
         ensures memory { IfOk result (λ image. (image.base ≡ base) × (image.size ≡ size)) }
-        ensures fault { IfErr result (λ fault. (fault ≡ ImageFault.NoMemory) ⊎ (text_image base size bytes.now ≡ Err fault)) }
+        ensures fault { IfErr result (λ fault.
+            (fault ≡ ImageFault.NoMemory) ⊎ (text_image base size bytes.now ≡ Err fault)) }
     {
         let placed = read(alloc, bytes, base, size)?;
         if placed.is_empty() {

@@ -1,14 +1,14 @@
-ghost use Rattle.std.specs.Prelude.{◌≡◌, ◌≤◌, ◌<◌, ◌+◌, ◌-◌, ◌^◌, ◌⊎◌, ◌==◌, ◌∷◌, [], ℕ, not, position, length, take, drop, IfOk, IfErr, IfSome, All};
+ghost use Rattle.std.specs.Prelude.{◌≡◌, ◌≤◌, ◌<◌, ◌+◌, ◌-◌, ◌^◌, ◌⊎◌, ◌==◌, ◌∷◌, [], ℕ, position, length, take, drop, IfOk, IfErr, IfSome, All};
 ghost use Rattle.std.specs.Option.{option_map_or};
 ghost use Rattle.xif_image.specs.Image.{IsWithin};
-ghost use Rattle.xif_image.specs.Text.{is_white, ends_comment, comment_length, blank_length, ends_token, token_length, length_before, Token, tokens_from, tokens_of, address_in, word_of, placed_by};
+ghost use Rattle.xif_image.specs.Text.{is_white, comment_length, blank_length, ends_token, token_length, length_before, Token, tokens_from, tokens_of, address_in, item_of, placed_by};
 
 use crate::image::{ByteAt, ImageFault, address_of};
 use std::alloc::Global;
 
 /// What a token says.
-#[derive(Clone, Copy, Debug, PartialEq, Eq)]
-pub enum Word {
+#[derive(Clone, Copy)]
+pub(crate) enum Item {
     /// The address of the next byte.
     Address(u32),
     /// A byte, which stands at the address that comes after the one before it.
@@ -23,9 +23,11 @@ pub(crate) fn read(
     size: u32,
 ) -> Result<Vec<ByteAt>, ImageFault>
     requires { base + size ≤ 2 ^ 32 }
-    ensures placed { IfOk result (λ placed. placed_by base size base (tokens_of bytes.now) ≡ Ok placed.items) }
+    ensures placed { IfOk result (λ placed.
+        placed_by base size base (tokens_of bytes.now) ≡ Ok placed.items) }
     ensures within { IfOk result (λ placed. All (λ b. IsWithin base size b.address) placed.items) }
-    ensures fault { IfErr result (λ fault. (fault ≡ ImageFault.NoMemory) ⊎ (placed_by base size base (tokens_of bytes.now) ≡ Err fault)) }
+    ensures fault { IfErr result (λ fault.
+        (fault ≡ ImageFault.NoMemory) ⊎ (placed_by base size base (tokens_of bytes.now) ≡ Err fault)) }
 {
     let mut placed = Vec::new(alloc);
     // The next byte stands so many bytes behind the last address that was set.
@@ -33,12 +35,12 @@ pub(crate) fn read(
     let mut count = 0;
     let mut at = 0;
     while let Some((start, end)) = next_token(bytes, at) {
-        match word_of(&bytes[start..end]) {
-            Some(Word::Address(address)) => {
+        match item_of(&bytes[start..end]) {
+            Some(Item::Address(address)) => {
                 load = address;
                 count = 0;
             }
-            Some(Word::Byte(value)) => {
+            Some(Item::Byte(value)) => {
                 let Some(address) = address_of(load, count, base, size) else {
                     return Err(ImageFault::Outside { at: start as u64 });
                 };
@@ -55,9 +57,12 @@ pub(crate) fn read(
 /// Where the first token from an offset on begins and ends.
 fn next_token(bytes: &[u8], at: usize) -> Option<(usize, usize)>
     requires { at ≤ length bytes.now }
-    ensures within { IfSome result (λ ends. (at ≤ ends.0) × (ends.0 < ends.1) × (ends.1 ≤ length bytes.now)) }
+    ensures within { IfSome result (λ ends.
+        (at ≤ ends.0) × (ends.0 < ends.1) × (ends.1 ≤ length bytes.now)) }
     ensures token { tokens_from at 0 (drop at bytes.now)
-        ≡ option_map_or (λ ends. record { at = ends.0; bytes = take (ends.1 - ends.0) (drop ends.0 bytes.now) } ∷ tokens_from ends.1 0 (drop ends.1 bytes.now)) result [] }
+        ≡ option_map_or (λ ends.
+        record { at = ends.0; bytes = take (ends.1 - ends.0) (drop ends.0 bytes.now) }
+        ∷ tokens_from ends.1 0 (drop ends.1 bytes.now)) result [] }
 {
     let mut start = at;
     while start < bytes.len() {
@@ -70,8 +75,9 @@ fn next_token(bytes: &[u8], at: usize) -> Option<(usize, usize)>
     None
 }
 
-/// The number of bytes of white space or of one comment at the front.
+/// The number of bytes of a white byte or a comment at the front.
 fn blank_length(bytes: &[u8]) -> usize
+    requires { 0 < length bytes.now }
     ensures within { result ≤ length bytes.now }
     ensures length { result ≡ blank_length bytes.now }
 {
@@ -80,7 +86,7 @@ fn blank_length(bytes: &[u8]) -> usize
     } else if bytes.starts_with(b"/*") {
         comment_length(bytes)
     } else {
-        no_white(bytes).unwrap_or(bytes.len())
+        usize::from(is_white(bytes[0]))
     }
 }
 
@@ -88,12 +94,6 @@ fn line_feed(bytes: &[u8]) -> Option<usize>
     ensures { result ≡ position (λ b. b == 10) bytes.now }
 {
     bytes.iter().position(|b| *b == b'\n')
-}
-
-fn no_white(bytes: &[u8]) -> Option<usize>
-    ensures { result ≡ position (λ b. not (is_white b)) bytes.now }
-{
-    bytes.iter().position(|b| !is_white(*b))
 }
 
 /// The number of bytes of the comment from `/*` on, through its `*/`: 0 where it is open.
@@ -139,16 +139,16 @@ fn is_white(byte: u8) -> bool
     matches!(byte, b'\t'..=b'\r' | b' ')
 }
 
-/// What a token says, if it is none of the others.
-fn word_of(token: &[u8]) -> Option<Word>
-    ensures { result ≡ word_of token.now }
+/// What a token says, if anything.
+fn item_of(token: &[u8]) -> Option<Item>
+    ensures { result ≡ item_of token.now }
 {
     if let Some(digits) = token.strip_prefix(b"@") {
-        return Some(Word::Address(address(digits)?));
+        return Some(Item::Address(address(digits)?));
     }
     let mut byte = [0];
     hex::decode_to_slice(token, &mut byte).ok()?;
-    Some(Word::Byte(byte[0]))
+    Some(Item::Byte(byte[0]))
 }
 
 /// The number that one to eight hex digits spell.

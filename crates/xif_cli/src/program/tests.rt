@@ -95,7 +95,7 @@ fn bytes_of(alloc: Global, words: &[u32]) -> Result<Vec<u8>, AllocError> {
 
 fn check(rt: &(impl Abort + AllocGlobal), case: &Case) -> Result<(), Fail> {
     let image = bytes_of(rt.alloc(), case.image)?;
-    let mut shelf = MemShelf::new(rt.alloc(), 5, case.failing_fetches)?;
+    let mut shelf = MemShelf::new(rt.alloc(), 5, case.failing_fetches, &[], &[])?;
     shelf.insert("p.bin", &image)?;
     let mut out = MemOut::new(rt.alloc(), 7, case.failing_puts)?;
     let words = split(rt.alloc(), case.words)?;
@@ -238,7 +238,7 @@ fn takes_an_image_up_to_the_limit(rt: HostRuntime) -> Result<(), Fail> {
         (65_536, Status::Done),
         (65_537, Status::TooBig(Which::Image)),
     ] {
-        let mut shelf = MemShelf::new(rt.alloc(), 65_536, &[])?;
+        let mut shelf = MemShelf::new(rt.alloc(), 65_536, &[], &[], &[])?;
         shelf.insert("p.bin", &vec![in rt.alloc(); 0; length]?)?;
         let mut out = MemOut::new(rt.alloc(), 7, &[])?;
         assert_eq!(rt; xif(rt.alloc(), &words, &mut shelf, &mut out), wanted);

@@ -20,6 +20,7 @@ loop-bytes-preserved g c =
           let here : IsMissing (g.S.Shelf.files c.loop-bytes.shelf) c.args.name.now = ap (λ files. told files c.args.name.now) before.files ∙ gone in
           let failed = c.in-Ok.ensures.missing here in
           cc;
+      writes = call.writes ∙ before.writes;
       files = call.files ∙ before.files;
       faultless = λ none. call.stays_faultless (before.faultless none);
       no_fault = λ none. call.no_fault (before.faultless none) ∙ before.no_fault none;

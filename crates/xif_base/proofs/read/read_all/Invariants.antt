@@ -10,6 +10,7 @@ invariant-loop-bytes g l = record {
   room : 0 < length l.piece;
   count : g.S.Shelf.fetch_faults l.fn.shelf ≤ g.S.Shelf.fetch_faults l.shelf;
   missing : IsMissing (g.S.Shelf.files l.fn.shelf) l.name → g.S.Shelf.fetch_faults l.shelf ≡ g.S.Shelf.fetch_faults l.fn.shelf;
+  writes : g.S.Shelf.write_faults l.shelf ≡ g.S.Shelf.write_faults l.fn.shelf;
   files : g.S.Shelf.files l.shelf ≡ g.S.Shelf.files l.fn.shelf;
   faultless : g.S.Shelf.faultless l.fn.shelf → g.S.Shelf.faultless l.shelf;
   no_fault : g.S.Shelf.faultless l.fn.shelf → g.S.Shelf.fetch_faults l.shelf ≡ g.S.Shelf.fetch_faults l.fn.shelf;

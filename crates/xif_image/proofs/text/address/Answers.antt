@@ -1,5 +1,5 @@
 use Rattle.std.proofs.Common.{arith}
-use Rattle.xif_image.proofs.Words.{hex_room}
+use Rattle.xif_image.proofs.Items.{hex_room}
 use Rattle.xif_image.proofs.text.address.Goals as goal
 
 pub overflow_mul-number : goal.overflow_mul-number

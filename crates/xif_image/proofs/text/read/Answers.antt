@@ -25,5 +25,5 @@ loop-start-preserved c =
       inside = omega (arith, c.in-Some.ensures.within);
       within = rw pushed (All-push (λ b. IsWithin base size b.address) placed byte c.loop-start.invariant.within address.0);
       rest = ap (λ items. with_front items (placed_by base size (load + (count + 1)) tokens)) pushed
-          ∙ byte_step base size load count c.in-Some-Byte.value token tokens placed _ (sym c.word_of.ensures ∙ c.in-Some-Byte.is ∙ ap Some c.in-Some-Byte.field-0-is) address.0 so_far;
+          ∙ byte_step base size load count c.in-Some-Byte.value token tokens placed _ (sym c.item_of.ensures ∙ c.in-Some-Byte.is ∙ ap Some c.in-Some-Byte.field-0-is) address.0 so_far;
     }

@@ -1,24 +1,31 @@
 use Rattle.std.proofs.Common.{◌≡◌, ap, sym, ◌∙◌, arith, None, Some}
+use Rattle.inorder_machine.specs.Machine.{Extension}
 use Rattle.inorder_machine.specs.After.{after, next_by, stop_of}
 use Rattle.inorder_machine.proofs.Retirements.{Ends, after-more, ends-full, ends-early}
 use Rattle.inorder_machine.proofs.machine.Machine.advance.Goals as goal
 
-stopped : (c : goal.In-Stop) → Ends c.args.n c.loop-retired.retired c.args.self.now c.loop-retired.self (Some c.in-Stop.cause)
+stopped : (c : goal.In-Stop) → let x : Extension = record { set = c.args.set.now; params = c.args.params.now } in Ends x c.args.n c.loop-retired.retired c.args.self.now c.loop-retired.self (Some c.in-Stop.cause)
 stopped c =
+    let x : Extension = record { set = c.args.set.now; params = c.args.params.now } in
     let was = sym c.in-Stop.ensures.outcome in
-    let e = ends-early c.args.n c.loop-retired.retired c.args.self.now c.loop-retired.self c.loop-retired.invariant (ap (next_by c.loop-retired.self) was) c.loop-retired-test.true in
+    let e = ends-early x c.args.n c.loop-retired.retired c.args.self.now c.loop-retired.self c.loop-retired.invariant.reached (ap (next_by x c.loop-retired.self) was) c.loop-retired-test.true in
     record { retired = e.retired; last = e.last; stop_is = sym (ap stop_of was) ∙ e.stop_is }
 
-full : (c : goal.After-loop-retired) → Ends c.args.n c.args.n c.args.self.now c.loop-retired.self None
+full : (c : goal.After-loop-retired) → let x : Extension = record { set = c.args.set.now; params = c.args.params.now } in Ends x c.args.n c.args.n c.args.self.now c.loop-retired.self None
 full c =
+    let x : Extension = record { set = c.args.set.now; params = c.args.params.now } in
     let all : c.args.n ≡ c.loop-retired.retired = omega arith in
-    ends-full c.args.n c.args.self.now c.loop-retired.self (ap (λ k. after k c.args.self.now) all ∙ c.loop-retired.invariant)
+    ends-full x c.args.n c.args.self.now c.loop-retired.self (ap (λ k. after x k c.args.self.now) all ∙ c.loop-retired.invariant.reached)
 
 pub loop-retired-preserved : goal.loop-retired-preserved
 loop-retired-preserved c =
-    after-more c.loop-retired.retired c.args.self.now c.loop-retired.self c.loop-retired.invariant
-    ∙ ap (next_by c.loop-retired.self) (sym c.in-Retired.ensures.outcome)
-    ∙ ap Some (sym c.in-Retired.ensures.state)
+    let x : Extension = record { set = c.args.set.now; params = c.args.params.now } in
+    record {
+      reached = after-more x c.loop-retired.retired c.args.self.now c.loop-retired.self c.loop-retired.invariant.reached
+          ∙ ap (next_by x c.loop-retired.self) (sym c.in-Retired.ensures.outcome)
+          ∙ ap Some (sym c.in-Retired.ensures.state);
+      units = c.in-Retired.ensures.units;
+    }
 
 pub returns-clause-retired : goal.returns-clause-retired
 returns-clause-retired c = (full c).retired

@@ -1,0 +1,43 @@
+-- Words and accumulators as numbers, and their bits.
+use Rattle.std.specs.Prelude.{◌==◌, ◌+◌, ◌*◌, ◌/◌, ◌%◌, ◌^◌, ℕ, zero, suc, ℤ, pos, cond}
+use Rattle.std.specs.Int.{w32, cast_signed, int_rem_euclid}
+use Rattle.std.specs.Int.RustNames.{unsigned_abs}
+
+-- the halves of 64 bits
+abbrev pub low_half : ℕ → ℕ
+low_half n = n % 2 ^ 32
+
+abbrev pub high_half : ℕ → ℕ
+high_half n = n / 2 ^ 32
+
+-- bits low to low + len - 1 of a word
+abbrev pub field : ℕ → ℕ → ℕ → ℕ
+field word low len = word / 2 ^ low % 2 ^ len
+
+-- a word with these bits replaced by the low bits of a value: what stands above them, the value, what stands below
+abbrev pub with_field : ℕ → ℕ → ℕ → ℕ → ℕ
+with_field word low len value =
+    word / 2 ^ (low + len) * 2 ^ (low + len) + value % 2 ^ len * 2 ^ low + word % 2 ^ low
+
+-- the low n bits of a word in the other order: the lowest comes to the top
+unfoldable pub reversed : ℕ → ℕ → ℕ
+reversed zero word = 0
+reversed (suc n) word = word % 2 * 2 ^ n + reversed n (word / 2)
+
+-- how many of the low n bits of a word are 1
+unfoldable pub ones : ℕ → ℕ → ℕ
+ones zero word = 0
+ones (suc n) word = word % 2 + ones n (word / 2)
+
+-- n bits: those of a where c has 1, those of b where c has 0
+unfoldable pub merged : ℕ → ℕ → ℕ → ℕ → ℕ
+merged zero a b c = 0
+merged (suc n) a b c = cond (c % 2 == 1) (a % 2) (b % 2) + 2 * merged n (a / 2) (b / 2) (c / 2)
+
+-- a word as a signed number
+abbrev pub signed : ℕ → ℤ
+signed word = cast_signed w32 word
+
+-- an integer modulo 2^64
+abbrev pub modulo_64 : ℤ → ℕ
+modulo_64 z = unsigned_abs (int_rem_euclid z (pos (2 ^ 64)))

@@ -1,0 +1,202 @@
+// Which entry takes a word.
+ghost use Rattle.std.specs.Prelude.{◌≡◌, ◌≤◌, ◌<◌, ◌^◌, ◌+◌, ◌*◌, ◌%◌, ◌&&◌, ℕ, Some, length, find, slice_get, nat_lt, bit_and, IfSome, IsSome, IsTrue};
+ghost use Rattle.std.specs.Option.{option_map};
+ghost use Rattle.xif_base.specs.Params.{IsInRange};
+ghost use Rattle.xif_base.specs.Flags.{even_bit, odd_bit};
+ghost use Rattle.coproc_config.specs.Table.{line, write_flags as write_flags_of};
+ghost use Rattle.coproc_config.specs.Set.{places_of};
+ghost use Rattle.coproc_config.specs.Check.{IsLawful};
+ghost use Rattle.coproc_config.specs.Accept.{rd_field as rd_field_of, source_field as source_field_of, is_even, can_read, can_write, takes, flag_of, read_flags as read_flags_of, hit_at, hit_of, entry_at, HasFlagsOf};
+
+use crate::operation::{Entry, Reads, Writes};
+use crate::set::{Set, Unit};
+use xif_base::{Params, ReadFlags, WriteFlags};
+
+/// The entry that takes a word, by the number of its unit and its own number there, from 0, and what
+/// the issue response says of it (CV-X-IF 1.0.0, section "Issue interface").
+#[derive(Clone, Copy, Debug, PartialEq, Eq)]
+pub struct Hit {
+    pub unit: u8,
+    pub entry: u8,
+    /// The halves of lanes that the instruction reads.
+    pub register_read: ReadFlags,
+    /// The registers that it writes.
+    pub writeback: WriteFlags,
+}
+
+impl Set {
+    /// The first entry, in unit order and then entry order, that matches the word and that the
+    /// parameters allow: each lane that it reads is there, pairs are read below X_DUALREAD from even
+    /// registers, and a pair is written only with X_DUALWRITE, to an even register.
+    pub fn accept(&self, params: &Params, word: u32) -> Option<Hit>
+        requires lawful { IsLawful self.now }
+        requires params { IsInRange params.now }
+        ensures first { result ≡ hit_of self.now params.now word }
+        ensures flags { IfSome result (λ hit. HasFlagsOf (entry_at self.now hit) params.now hit) }
+
+        // A pair is written to an even register.
+        ensures pair { IfSome result (λ hit. hit.writeback.0 ≡ 3 → rd_field_of word % 2 ≡ 0) }
+    {
+        for i in 0..self.len() {
+            if let Some(hit) = self.get(i).accept(i as u8, params, word) {
+                return Some(hit);
+            }
+        }
+        None
+    }
+}
+
+impl Unit {
+    /// The same among the entries of the unit with this number.
+    fn accept(&self, unit: u8, params: &Params, word: u32) -> Option<Hit>
+        requires few { length self.now.entries ≤ 32 }
+        requires params { IsInRange params.now }
+        ensures first { result ≡ option_map (hit_at params.now)
+            (find (λ place. takes params.now word place.row) (places_of (unit, self.now))) }
+        ensures unit { IfSome result (λ hit. hit.unit ≡ unit) }
+        ensures flags { IfSome result
+            (λ hit. HasFlagsOf (slice_get self.now.entries hit.entry) params.now hit) }
+        ensures pair { IfSome result (λ hit. hit.writeback.0 ≡ 3 → rd_field_of word % 2 ≡ 0) }
+    {
+        for i in 0..self.len() {
+            let entry = self.get(i);
+            if entry.takes(params, word) {
+                return Some(Hit {
+                    unit,
+                    entry: i as u8,
+                    register_read: read_flags(entry.op.reads(), params),
+                    writeback: write_flags(entry.op.writes()),
+                });
+            }
+        }
+        None
+    }
+}
+
+impl Entry {
+    fn takes(&self, params: &Params, word: u32) -> bool
+        ensures takes { result ≡ takes params.now word self.now }
+        ensures readable { IsTrue result → IsTrue (can_read params.now word (line self.now.op).reads) }
+        ensures writable { IsTrue result → write_flags_of (line self.now.op).writes ≡ 3 → rd_field_of word % 2 ≡ 0 }
+    {
+        word & self.mask == self.matched
+            && is_readable(self.op.reads(), params, word)
+            && is_writable(self.op.writes(), params, word)
+    }
+}
+
+fn is_readable(reads: Reads, params: &Params, word: u32) -> bool
+    ensures { result ≡ can_read params.now word reads }
+{
+    match reads {
+        Reads::Nothing => true,
+        Reads::A => has_lane(params, 0),
+        Reads::AB => has_lane(params, 0) && has_lane(params, 1),
+        Reads::ABC => has_lane(params, 0) && has_lane(params, 1) && has_lane(params, 2),
+        Reads::PairA => has_lane(params, 0) && has_pair(params, 0, word),
+        Reads::PairAB => {
+            has_lane(params, 0)
+                && has_lane(params, 1)
+                && has_pair(params, 0, word)
+                && has_pair(params, 1, word)
+        }
+    }
+}
+
+fn is_writable(writes: Writes, params: &Params, word: u32) -> bool
+    ensures value { result ≡ can_write params.now word writes }
+    ensures even { IsTrue result → write_flags_of writes ≡ 3 → rd_field_of word % 2 ≡ 0 }
+{
+    match writes {
+        Writes::Nothing | Writes::One => true,
+        Writes::Pair => params.dual_write && rd_field(word) % 2 == 0,
+    }
+}
+
+fn has_lane(params: &Params, lane: u8) -> bool
+    ensures { result ≡ nat_lt lane params.now.num_rs }
+{
+    lane < params.num_rs
+}
+
+fn has_pair(params: &Params, lane: u8, word: u32) -> bool
+    requires { lane < 3 }
+    ensures { result ≡ (nat_lt lane params.now.dual_read && is_even (source_field_of word lane)) }
+{
+    lane < params.dual_read && source_field(word, lane) % 2 == 0
+}
+
+fn rd_field(word: u32) -> u32
+    ensures { result ≡ rd_field_of word }
+{
+    (word >> 7) & 0x1f
+}
+
+fn source_field(word: u32, lane: u8) -> u32
+    requires { lane < 3 }
+    ensures { result ≡ source_field_of word lane }
+{
+    match lane {
+        0 => (word >> 15) & 0x1f,
+        1 => (word >> 20) & 0x1f,
+        _ => word >> 27,
+    }
+}
+
+fn read_flags(reads: Reads, params: &Params) -> ReadFlags
+    requires params { IsInRange params.now }
+    requires readable { (word : ℕ) × IsTrue (can_read params.now word reads) }
+    ensures { result.0 ≡ read_flags_of params.now reads }
+{
+    let bits = match reads {
+        Reads::Nothing => 0,
+        Reads::A => low_flag(params, 0),
+        Reads::AB => low_flag(params, 0) + low_flag(params, 1),
+        Reads::ABC => low_flag(params, 0) + low_flag(params, 1) + low_flag(params, 2),
+        Reads::PairA => low_flag(params, 0) + high_flag(params, 0),
+        Reads::PairAB => {
+            low_flag(params, 0) + low_flag(params, 1) + high_flag(params, 0) + high_flag(params, 1)
+        }
+    };
+    match ReadFlags::from_bits(bits) {
+        Some(flags) => flags,
+        None => unreachable!(),
+    }
+}
+
+/// The flag of the low half of a lane.
+fn low_flag(params: &Params, lane: u8) -> u8
+    requires params { IsInRange params.now }
+    requires lane { lane < params.now.num_rs }
+    ensures value { result ≡ flag_of (Some (even_bit params.now lane)) }
+    ensures most { result ≤ 2 ^ (2 * lane) }
+{
+    1 << ReadFlags::even_bit(params, lane)
+}
+
+/// The flag of the high half of a lane, and 0 where the lane has none.
+fn high_flag(params: &Params, lane: u8) -> u8
+    requires params { IsInRange params.now }
+    requires lane { lane < params.now.num_rs }
+    ensures value { result ≡ flag_of (odd_bit params.now lane) }
+    ensures most { result ≤ 2 ^ (2 * lane + 1) }
+{
+    match ReadFlags::odd_bit(params, lane) {
+        Some(bit) => 1 << bit,
+        None => 0,
+    }
+}
+
+fn write_flags(writes: Writes) -> WriteFlags
+    ensures { result.0 ≡ write_flags_of writes }
+{
+    let bits = match writes {
+        Writes::Nothing => 0,
+        Writes::One => 1,
+        Writes::Pair => 3,
+    };
+    match WriteFlags::from_bits(bits) {
+        Some(flags) => flags,
+        None => unreachable!(),
+    }
+}
