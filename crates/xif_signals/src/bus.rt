@@ -1,9 +1,11 @@
 // The values of all signals in a cycle, and who drives which.
 ghost use Rattle.std.specs.Prelude.{◌≡◌};
+ghost use Rattle.xif_signals.specs.Bus.{join_of, values_of, sample_of, FitsWidths};
+ghost use Rattle.xif_base.specs.declared.params.Params.{Params};
 ghost use Rattle.xif_base.specs.Params.{IsInRange};
-ghost use Rattle.xif_signals.specs.Bus.{join_of, sample_of, FitsWidths};
+ghost use Rattle.xif_signals.specs.Known.{known_of};
 
-use crate::sample::{Quad, Sample};
+use crate::sample::Sample;
 
 /// What the core drives, but for `result_ready`.
 #[derive(Clone, Copy, Debug, PartialEq, Eq)]
@@ -117,37 +119,46 @@ impl Bus {
 
     /// The sample of a cycle in which reset is off and these are the values of the signals.
     pub fn sample(&self) -> Sample
-        ensures { result ≡ sample_of self.now }
+        ensures sample { result ≡ sample_of self.now }
+        // `Sample::known` gives the bus again.
+        ensures reads_back { (p : Params) → IsInRange p → FitsWidths p self.now → known_of result p ≡ Ok self.now }
     {
-        Sample::of([
-            Quad::of(1),
-            Quad::of(u64::from(self.issue_valid)),
-            Quad::of(u64::from(self.issue_ready)),
-            Quad::of(u64::from(self.issue_hartid)),
-            Quad::of(u64::from(self.issue_id)),
-            Quad::of(u64::from(self.issue_instr)),
-            Quad::of(u64::from(self.issue_accept)),
-            Quad::of(u64::from(self.issue_writeback)),
-            Quad::of(u64::from(self.issue_register_read)),
-            Quad::of(u64::from(self.register_valid)),
-            Quad::of(u64::from(self.register_ready)),
-            Quad::of(u64::from(self.register_hartid)),
-            Quad::of(u64::from(self.register_id)),
-            Quad::of(self.register_rs0),
-            Quad::of(self.register_rs1),
-            Quad::of(self.register_rs2),
-            Quad::of(u64::from(self.register_rs_valid)),
-            Quad::of(u64::from(self.commit_valid)),
-            Quad::of(u64::from(self.commit_hartid)),
-            Quad::of(u64::from(self.commit_id)),
-            Quad::of(u64::from(self.commit_kill)),
-            Quad::of(u64::from(self.result_valid)),
-            Quad::of(u64::from(self.result_ready)),
-            Quad::of(u64::from(self.result_hartid)),
-            Quad::of(u64::from(self.result_id)),
-            Quad::of(self.result_data),
-            Quad::of(u64::from(self.result_rd)),
-            Quad::of(u64::from(self.result_we)),
-        ])
+        Sample::of(self.values())
+    }
+
+    /// The values of the signals but for the clock, in the order of the table.
+    fn values(&self) -> [u64; 28]
+        ensures { result ≡ values_of self.now }
+    {
+        [
+            1,
+            self.issue_valid as u64,
+            self.issue_ready as u64,
+            self.issue_hartid as u64,
+            self.issue_id as u64,
+            self.issue_instr as u64,
+            self.issue_accept as u64,
+            self.issue_writeback as u64,
+            self.issue_register_read as u64,
+            self.register_valid as u64,
+            self.register_ready as u64,
+            self.register_hartid as u64,
+            self.register_id as u64,
+            self.register_rs0,
+            self.register_rs1,
+            self.register_rs2,
+            self.register_rs_valid as u64,
+            self.commit_valid as u64,
+            self.commit_hartid as u64,
+            self.commit_id as u64,
+            self.commit_kill as u64,
+            self.result_valid as u64,
+            self.result_ready as u64,
+            self.result_hartid as u64,
+            self.result_id as u64,
+            self.result_data,
+            self.result_rd as u64,
+            self.result_we as u64,
+        ]
     }
 }

@@ -2,7 +2,7 @@
 ghost use Rattle.std.specs.Prelude.{◌≡◌, ◌≢◌, ◌<◌, IfOk};
 ghost use Rattle.xif_base.specs.Params.{IsInRange};
 ghost use Rattle.xif_signals.specs.declared.signal.Signal.TheVariants.{Clk};
-ghost use Rattle.xif_signals.specs.Bus.{bus_of, FitsWidths, sample_of};
+ghost use Rattle.xif_signals.specs.Bus.{bus_of, FitsWidths};
 ghost use Rattle.xif_signals.specs.Known as rules;
 
 use crate::bus::Bus;
@@ -178,6 +178,7 @@ impl Sample {
     fn bus(&self, params: &Params) -> Bus
         requires { IsInRange params.now }
         ensures bus { result ≡ bus_of self.now params.now }
+        ensures fits { FitsWidths params.now result }
     {
         Bus {
             issue_valid: self.is_one(Signal::IssueValid, params),

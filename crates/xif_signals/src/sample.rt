@@ -1,7 +1,8 @@
 // The values of the signals in one cycle, some of their bits unknown.
-ghost use Rattle.std.specs.Prelude.{◌≡◌, ◌≢◌, ◌≤◌, ◌%◌, ◌^◌, slice_set};
+ghost use Rattle.std.specs.Prelude.{◌≡◌, ◌≢◌, ◌≤◌, ◌<◌, ◌%◌, ◌^◌, slice_set, replicate, map};
 ghost use Rattle.xif_base.specs.Params.{IsInRange};
 ghost use Rattle.xif_signals.specs.declared.signal.Signal.TheVariants.{Clk};
+ghost use Rattle.xif_signals.specs.Signal.{width_of};
 ghost use Rattle.xif_signals.specs.Quad.{known_quad, reading_of, place_of, quad_of, zeros, value_of, is_one, unknown_of};
 ghost use Rattle.xif_signals.specs.Known.{is_known};
 
@@ -35,7 +36,7 @@ impl Model for Sample {
 
 impl Quad {
     /// A number, all bits of it known.
-    pub(crate) fn of(value: u64) -> Quad
+    fn of(value: u64) -> Quad
         ensures { result ≡ known_quad value }
     {
         Quad { value, unknown: 0 }
@@ -54,7 +55,9 @@ impl Sample {
     pub fn new() -> Sample
         ensures { result ≡ zeros }
     {
-        Sample::of([Quad::of(0); 28])
+        Sample {
+            quads: [Quad::of(0); 28],
+        }
     }
 
     pub fn get(&self, signal: Signal) -> Quad
@@ -71,9 +74,14 @@ impl Sample {
         self.quads[usize::from(signal.number()) - 1] = quad;
     }
 
-    pub(crate) fn of(quads: [Quad; 28]) -> Sample
-        ensures { result ≡ quads }
+    /// The sample in which the signals but the clock have these values, all bits of them known.
+    pub(crate) fn of(values: [u64; 28]) -> Sample
+        ensures { result ≡ map known_quad values }
     {
+        let mut quads = [Quad::of(0); 28];
+        for (index, value) in values.iter().enumerate() {
+            quads[index] = Quad::of(*value);
+        }
         Sample { quads }
     }
 
@@ -81,7 +89,8 @@ impl Sample {
     pub(crate) fn value(&self, signal: Signal, params: &Params) -> u64
         requires signal { signal ≢ Clk }
         requires params { IsInRange params.now }
-        ensures { result ≡ value_of self.now params.now signal }
+        ensures value { result ≡ value_of self.now params.now signal }
+        ensures below { result < 2 ^ width_of signal params.now }
     {
         low_bits(self.get(signal).reading(), signal.width(params))
     }
@@ -113,9 +122,11 @@ impl Sample {
     }
 }
 
+#[tactic(auto, using(crate::proofs::Bits::low_lt))]
 fn low_bits(bits: u64, width: u8) -> u64
     requires { width ≤ 64 }
-    ensures { result ≡ bits % 2 ^ width }
+    ensures bits { result ≡ bits % 2 ^ width }
+    ensures below { result < 2 ^ width }
 {
     if width == 64 {
         bits
