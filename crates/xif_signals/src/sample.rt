@@ -69,7 +69,8 @@ impl Sample {
 
     pub fn set(&mut self, signal: Signal, quad: Quad)
         requires { signal ≢ Clk }
-        ensures { self.new ≡ slice_set self.old (place_of signal) quad }
+        ensures set { self.new ≡ slice_set self.old (place_of signal) quad }
+        ensures same { quad_of self.new signal ≡ quad }
     {
         self.quads[usize::from(signal.number()) - 1] = quad;
     }
