@@ -1,0 +1,4 @@
+pub mod Signal
+pub mod Quad
+pub mod Bus
+pub mod Known

@@ -1,0 +1,220 @@
+// Which bits of a sample have to be known, and the bus that it is where they are.
+ghost use Rattle.std.specs.Prelude.{◌≡◌, ◌≢◌, ◌<◌, IfOk};
+ghost use Rattle.xif_base.specs.Params.{IsInRange};
+ghost use Rattle.xif_signals.specs.declared.signal.Signal.TheVariants.{Clk};
+ghost use Rattle.xif_signals.specs.Bus.{bus_of, FitsWidths};
+ghost use Rattle.xif_signals.specs.Known as rules;
+
+use crate::bus::Bus;
+use crate::rule::{Channel, Rule, Unknown};
+use crate::sample::Sample;
+use crate::signal::Signal;
+use xif_base::{Params, ReadFlags};
+
+impl Sample {
+    /// The bus, where all bits are known that count, with 0 for the others. Else the first of the rules
+    /// K1 and K2 that fails, and its first channel. Looks at no bit at or above a signal's width.
+    pub fn known(&self, params: &Params) -> Result<Bus, Unknown>
+        requires { IsInRange params.now }
+        ensures known { result ≡ rules.known_of self.now params.now }
+        ensures fits { IfOk result (FitsWidths params.now) }
+    {
+        if let Some(channel) = self.first_k1(params) {
+            return Err(Unknown {
+                rule: Rule::K1,
+                channel,
+            });
+        }
+        if let Some(channel) = self.first_k2(params) {
+            return Err(Unknown {
+                rule: Rule::K2,
+                channel,
+            });
+        }
+        Ok(self.bus(params))
+    }
+
+    /// The first channel where K1 fails.
+    fn first_k1(&self, params: &Params) -> Option<Channel>
+        requires { IsInRange params.now }
+        ensures { result ≡ rules.first_unknown (rules.rule_K1 self.now params.now) }
+    {
+        if !self.is_handshake_known(Signal::IssueValid, Signal::IssueReady, params) {
+            Some(Channel::Issue)
+        } else if !self.is_handshake_known(Signal::RegisterValid, Signal::RegisterReady, params) {
+            Some(Channel::Register)
+        } else if !self.is_known(Signal::CommitValid, params) {
+            Some(Channel::Commit)
+        } else if !self.is_handshake_known(Signal::ResultValid, Signal::ResultReady, params) {
+            Some(Channel::Result)
+        } else {
+            None
+        }
+    }
+
+    /// The first channel where K2 fails.
+    fn first_k2(&self, params: &Params) -> Option<Channel>
+        requires { IsInRange params.now }
+        ensures { result ≡ rules.first_unknown (rules.rule_K2 self.now params.now) }
+    {
+        if !self.is_issue_known(params) {
+            Some(Channel::Issue)
+        } else if !self.is_register_known(params) {
+            Some(Channel::Register)
+        } else if !self.is_commit_known(params) {
+            Some(Channel::Commit)
+        } else if !self.is_result_known(params) {
+            Some(Channel::Result)
+        } else {
+            None
+        }
+    }
+
+    fn is_handshake_known(&self, valid: Signal, ready: Signal, params: &Params) -> bool
+        requires valid { valid ≢ Clk }
+        requires ready { ready ≢ Clk }
+        requires params { IsInRange params.now }
+        ensures { result ≡ rules.is_handshake_known self.now params.now valid ready }
+    {
+        self.is_known(valid, params)
+            && (!self.is_one(valid, params) || self.is_known(ready, params))
+    }
+
+    fn is_issue_known(&self, params: &Params) -> bool
+        requires { IsInRange params.now }
+        ensures { result ≡ rules.is_issue_known self.now params.now }
+    {
+        if !self.is_one(Signal::IssueValid, params) {
+            return true;
+        }
+        if !(self.is_known(Signal::IssueHartid, params)
+            && self.is_known(Signal::IssueId, params)
+            && self.is_known(Signal::IssueInstr, params))
+        {
+            return false;
+        }
+        !self.is_one(Signal::IssueReady, params)
+            || self.is_known(Signal::IssueAccept, params)
+                && self.is_known(Signal::IssueWriteback, params)
+                && (!self.is_one(Signal::IssueAccept, params)
+                    || self.is_known(Signal::IssueRegisterRead, params))
+    }
+
+    fn is_register_known(&self, params: &Params) -> bool
+        requires { IsInRange params.now }
+        ensures { result ≡ rules.is_register_known self.now params.now }
+    {
+        if !self.is_one(Signal::RegisterValid, params) {
+            return true;
+        }
+        self.is_known(Signal::RegisterHartid, params)
+            && self.is_known(Signal::RegisterId, params)
+            && self.is_known(Signal::RegisterRsValid, params)
+            && self.is_lane_known(0, Signal::RegisterRs0, params)
+            && self.is_lane_known(1, Signal::RegisterRs1, params)
+            && (params.num_rs != 3 || self.is_lane_known(2, Signal::RegisterRs2, params))
+    }
+
+    fn is_lane_known(&self, lane: u8, signal: Signal, params: &Params) -> bool
+        requires lane { lane < params.now.num_rs }
+        requires signal { signal ≢ Clk }
+        requires params { IsInRange params.now }
+        ensures { result ≡ rules.is_lane_known self.now params.now lane signal }
+    {
+        let flags = self.value(Signal::RegisterRsValid, params);
+        let even = has_flag(flags, ReadFlags::even_bit(params, lane));
+        let odd = match ReadFlags::odd_bit(params, lane) {
+            Some(bit) => has_flag(flags, bit),
+            None => false,
+        };
+        self.are_halves_known(signal, even, odd, params)
+    }
+
+    fn is_commit_known(&self, params: &Params) -> bool
+        requires { IsInRange params.now }
+        ensures { result ≡ rules.is_commit_known self.now params.now }
+    {
+        !self.is_one(Signal::CommitValid, params)
+            || self.is_known(Signal::CommitHartid, params)
+                && self.is_known(Signal::CommitId, params)
+                && self.is_known(Signal::CommitKill, params)
+    }
+
+    fn is_result_known(&self, params: &Params) -> bool
+        requires { IsInRange params.now }
+        ensures { result ≡ rules.is_result_known self.now params.now }
+    {
+        if !self.is_one(Signal::ResultValid, params) {
+            return true;
+        }
+        if !(self.is_known(Signal::ResultHartid, params)
+            && self.is_known(Signal::ResultId, params)
+            && self.is_known(Signal::ResultWe, params))
+        {
+            return false;
+        }
+        let flags = self.value(Signal::ResultWe, params);
+        flags == 0
+            || self.is_known(Signal::ResultRd, params)
+                && self.are_halves_known(
+                    Signal::ResultData,
+                    has_flag(flags, 0),
+                    has_flag(flags, 1),
+                    params,
+                )
+    }
+
+    /// Whether the halves of a signal are known whose flag is set.
+    fn are_halves_known(&self, signal: Signal, even: bool, odd: bool, params: &Params) -> bool
+        requires signal { signal ≢ Clk }
+        requires params { IsInRange params.now }
+        ensures { result ≡ rules.are_halves_known self.now params.now signal even odd }
+    {
+        let unknown = self.unknown(signal, params);
+        (!even || unknown % (1 << 32) == 0) && (!odd || unknown / (1 << 32) == 0)
+    }
+
+    /// What the bits below the widths say, an unknown bit as 0.
+    fn bus(&self, params: &Params) -> Bus
+        requires { IsInRange params.now }
+        ensures bus { result ≡ bus_of self.now params.now }
+        ensures fits { FitsWidths params.now result }
+    {
+        Bus {
+            issue_valid: self.is_one(Signal::IssueValid, params),
+            issue_ready: self.is_one(Signal::IssueReady, params),
+            issue_hartid: self.value(Signal::IssueHartid, params) as u8,
+            issue_id: self.value(Signal::IssueId, params) as u16,
+            issue_instr: self.value(Signal::IssueInstr, params) as u32,
+            issue_accept: self.is_one(Signal::IssueAccept, params),
+            issue_writeback: self.value(Signal::IssueWriteback, params) as u8,
+            issue_register_read: self.value(Signal::IssueRegisterRead, params) as u8,
+            register_valid: self.is_one(Signal::RegisterValid, params),
+            register_ready: self.is_one(Signal::RegisterReady, params),
+            register_hartid: self.value(Signal::RegisterHartid, params) as u8,
+            register_id: self.value(Signal::RegisterId, params) as u16,
+            register_rs0: self.value(Signal::RegisterRs0, params),
+            register_rs1: self.value(Signal::RegisterRs1, params),
+            register_rs2: self.value(Signal::RegisterRs2, params),
+            register_rs_valid: self.value(Signal::RegisterRsValid, params) as u8,
+            commit_valid: self.is_one(Signal::CommitValid, params),
+            commit_hartid: self.value(Signal::CommitHartid, params) as u8,
+            commit_id: self.value(Signal::CommitId, params) as u16,
+            commit_kill: self.is_one(Signal::CommitKill, params),
+            result_valid: self.is_one(Signal::ResultValid, params),
+            result_ready: self.is_one(Signal::ResultReady, params),
+            result_hartid: self.value(Signal::ResultHartid, params) as u8,
+            result_id: self.value(Signal::ResultId, params) as u16,
+            result_data: self.value(Signal::ResultData, params),
+            result_rd: self.value(Signal::ResultRd, params) as u8,
+            result_we: self.value(Signal::ResultWe, params) as u8,
+        }
+    }
+}
+
+fn has_flag(flags: u64, bit: u8) -> bool
+    requires { bit < 64 }
+    ensures { result ≡ rules.has_flag flags bit }
+{
+    (flags >> bit) & 1 == 1
+}
