@@ -1,8 +1,7 @@
 -- Hits and the entries that they name.
-use Rattle.std.proofs.Common.{◌≡◌, ℕ, List, Option, Some, slice_get, ap, ap₂, ◌∙◌}
+use Rattle.std.proofs.Common.{◌≡◌, ℕ, List, Some, slice_get, ap, ap₂, ◌∙◌}
 use Rattle.xif_base.specs.declared.flags.ReadFlags.{ReadFlags}
 use Rattle.xif_base.specs.declared.flags.WriteFlags.{WriteFlags}
-use Rattle.coproc_config.specs.declared.operation.Entry.{Entry}
 use Rattle.coproc_config.specs.declared.accept.Hit.{Hit}
 use Rattle.coproc_config.specs.Set.{UnitTable}
 use Rattle.coproc_config.specs.Accept.{entry_in, entry_at}

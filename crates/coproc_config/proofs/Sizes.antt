@@ -1,7 +1,6 @@
 -- What it says of a set that no check of it fails.
-use Rattle.std.proofs.Common.{◌≡◌, ◌<◌, ◌≤◌, ◌+◌, ℕ, Bool, true, false, List, [], ◌∷◌, length, Result, Ok, Err, IsOk, ◌↔◌, nat_le, nat_lt, ◌&&◌, cond, ◌++◌, ◌==◌, bit_and, Option, Some, slice_get, refl, sym, ap, ◌∙◌, arith}
+use Rattle.std.proofs.Common.{◌≡◌, ◌≤◌, ℕ, Bool, true, false, List, [], ◌∷◌, length, Result, Ok, Err, IsOk, ◌↔◌, nat_le, cond, ◌++◌, ◌==◌, bit_and, Some, slice_get, refl, sym, ap, ◌∙◌, arith}
 use Rattle.std.specs.List.{flat_map, enumerate_from}
-use Rattle.std.proofs.lemmas.Bool.{and_parts}
 use Rattle.std.proofs.lemmas.Bool.Decides.{nat_tests}
 use Rattle.std.proofs.lemmas.List.Folds.{flat_map-map}
 use Rattle.xif_base.specs.Checks.{first_fault}
@@ -10,8 +9,6 @@ use Rattle.coproc_config.specs.Check.{fault, unit_checks, entry_checks, has_accu
 use Rattle.coproc_config.specs.declared.check.SetFault.{SetFault}
 use Rattle.coproc_config.specs.declared.check.SetCause.TheVariants.{TooManyUnits, BadMask, BadAccumulator, BadField}
 use Rattle.coproc_config.specs.declared.operation.Entry.{Entry}
-use Rattle.coproc_config.specs.declared.operation.Names.{Names}
-use Rattle.coproc_config.specs.declared.operation.Names.TheVariants as names
 use Rattle.coproc_config.specs.Table.{line}
 use Rattle.coproc_config.proofs.Checks.{first_fault-parts, each, flat_map-flat_map}
 

@@ -1,5 +1,5 @@
 -- States, and the sets that they are of.
-use Rattle.std.proofs.Common.{◌≡◌, ◌<◌, ◌+◌, ℕ, Bool, true, nat_lt, get_or, List, [], ◌∷◌, ◌++◌, take, length, map, replicate, Option, Some, slice_get, refl, sym, ap, subst, ◌∙◌, inl, inr, arith}
+use Rattle.std.proofs.Common.{◌≡◌, ◌<◌, ◌+◌, ℕ, true, nat_lt, get_or, List, [], ◌∷◌, ◌++◌, take, length, map, replicate, Some, slice_get, refl, sym, ap, subst, ◌∙◌, inl, inr, arith}
 use Rattle.std.proofs.lemmas.List.{length-replicate, take_more, map-append, length-map, get_or-map, get_or-set_same, get_or-set_other}
 use Rattle.std.proofs.lemmas.Bool.{cases_eq}
 use Rattle.std.proofs.lemmas.Bool.Decides.{nat_tests}
@@ -39,16 +39,20 @@ accumulators-there units state i unit same found =
           ∙ ap (λ unit. unit.accumulators) (get_or_from_slice_get units i unit unit found),
     )
 
--- the accumulator that an entry of a unit names
-pub accumulator-there : (units : List UnitTable) (state : List (List ℕ)) (i : ℕ) (unit : UnitTable) (acc : ℕ) (n : Names) → IsStateOf units state → slice_get units i ≡ Some unit → has_accumulator n acc unit.accumulators ≡ true → n ≡ names.Accumulator → HasAccumulator state i acc
-accumulator-there units state i unit acc n same found test is =
+pub accumulator-below : (units : List UnitTable) (state : List (List ℕ)) (i : ℕ) (unit : UnitTable) (acc : ℕ) → IsStateOf units state → slice_get units i ≡ Some unit → acc < unit.accumulators → HasAccumulator state i acc
+accumulator-below units state i unit acc same found below =
     let there = accumulators-there units state i unit same found in
-    let passes : nat_lt acc unit.accumulators ≡ true = ap (λ n. has_accumulator n acc unit.accumulators) (sym is) ∙ test in
-    let below : acc < unit.accumulators = grind (arith, nat_tests) in
     record {
       unit_is = there.0;
       acc_is = omega (arith, there.1);
     }
+
+-- the accumulator that an entry of a unit names
+pub accumulator-there : (units : List UnitTable) (state : List (List ℕ)) (i : ℕ) (unit : UnitTable) (acc : ℕ) (n : Names) → IsStateOf units state → slice_get units i ≡ Some unit → has_accumulator n acc unit.accumulators ≡ true → n ≡ names.Accumulator → HasAccumulator state i acc
+accumulator-there units state i unit acc n same found test is =
+    let passes : nat_lt acc unit.accumulators ≡ true = ap (λ n. has_accumulator n acc unit.accumulators) (sym is) ∙ test in
+    let below : acc < unit.accumulators = grind (arith, nat_tests) in
+    accumulator-below units state i unit acc same found below
 
 -- a state with another value in an accumulator is of the same set
 pub IsStateOf-with_accumulator : (units : List UnitTable) (state : List (List ℕ)) (i acc value : ℕ) → IsStateOf units state → IsStateOf units (with_accumulator state i acc value)

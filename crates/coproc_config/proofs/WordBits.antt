@@ -1,6 +1,6 @@
 -- The code on whole words gives the bits that the definitions name one by one.
 use Rattle.std.proofs.Common.{◌≡◌, ◌<◌, ◌≤◌, ◌==◌, ◌+◌, ◌-◌, ◌*◌, ◌/◌, ◌%◌, ◌^◌, ℕ, zero, suc, ℤ, pos, negsuc, ◌+ℤ◌, cond, bit_and, bit_or, refl, sym, ap, subst, zero-add, ◌∙◌, arith, lit<, FitsSigned, w64, of_z}
-use Rattle.std.specs.Int.{reverse_bits_onto, int_rem_euclid}
+use Rattle.std.specs.Int.{reverse_bits_onto}
 use Rattle.std.specs.Int.RustNames.{unsigned_abs}
 use Rattle.std.proofs.lemmas.Nat.{and_mask, one_shl, and_block, or_block, and_le_l, or_comm, or_disjoint, pow-add, pow_pos, mul-add-lt, shr_below, mod_below}
 use Rattle.std.specs.Int.Bits.{and_zero_l, and_zero_r}

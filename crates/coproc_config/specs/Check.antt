@@ -1,8 +1,7 @@
 -- The checks of a set.
-use Rattle.std.specs.Prelude.{◌≡◌, ◌==◌, ◌&&◌, ◌+◌, ◌++◌, ℕ, Bool, true, List, [], ◌∷◌, length, Result, Ok, nat_lt, nat_le, bit_and}
+use Rattle.std.specs.Prelude.{◌≡◌, ◌==◌, ◌&&◌, ◌+◌, ◌++◌, ℕ, Bool, true, List, [], ◌∷◌, length, Ok, nat_lt, nat_le, bit_and}
 use Rattle.std.specs.List.{flat_map, enumerate_from}
 use Rattle.xif_base.specs.Checks.{first_fault}
-use Rattle.coproc_config.specs.declared.operation.Entry.{Entry}
 use Rattle.coproc_config.specs.declared.operation.Names.{Names}
 use Rattle.coproc_config.specs.declared.operation.Names.TheVariants as names
 use Rattle.coproc_config.specs.declared.check.SetFault.{SetFault}

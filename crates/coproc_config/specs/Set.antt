@@ -1,5 +1,5 @@
 -- A set of units, and the accumulators of a state.
-use Rattle.std.specs.Prelude.{◌≡◌, ◌++◌, ◌-◌, ◌<◌, ℕ, List, [], ◌∷◌, length, map, replicate, slice_set, slice_index_or, Option, Some, None, slice_get, refl}
+use Rattle.std.specs.Prelude.{◌++◌, ◌-◌, ℕ, List, [], ◌∷◌, length, map, slice_set, slice_index_or}
 use Rattle.std.specs.List.{flat_map, enumerate_from}
 use Rattle.coproc_config.specs.declared.operation.Entry.{Entry}
 

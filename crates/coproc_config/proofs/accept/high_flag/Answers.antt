@@ -1,4 +1,4 @@
-use Rattle.std.proofs.Common.{◌≡◌, ◌≤◌, ◌<◌, ◌+◌, ◌*◌, ◌^◌, ◌%◌, arith, cond, nat_lt, Some, None}
+use Rattle.std.proofs.Common.{◌≤◌, ◌+◌, ◌*◌, arith}
 use Rattle.std.proofs.lemmas.Bool.Decides.{nat_tests}
 use Rattle.coproc_config.proofs.WordBits.{flag-below}
 use Rattle.coproc_config.proofs.accept.high_flag.Goals as goal

@@ -1,4 +1,4 @@
-use Rattle.std.proofs.Common.{◌≡◌, ◌≤◌, ◌<◌, ◌*◌, ◌^◌, ◌%◌, arith}
+use Rattle.std.proofs.Common.{◌*◌, arith}
 use Rattle.coproc_config.proofs.WordBits.{flag-below}
 use Rattle.coproc_config.proofs.accept.low_flag.Goals as goal
 

@@ -1,4 +1,4 @@
-use Rattle.std.proofs.Common.{◌≡◌, ◌+◌, ◌%◌, ◌∙◌, ap, rules, ℤ, pos, ◌+ℤ◌, FitsSigned, w64, of_z}
+use Rattle.std.proofs.Common.{◌+◌, ◌%◌, ◌∙◌, ap, rules, pos, ◌+ℤ◌, FitsSigned, w64, of_z}
 use Rattle.std.proofs.lemmas.Int.{to_z-of_z}
 use Rattle.coproc_config.specs.Bits.{modulo_64}
 use Rattle.coproc_config.proofs.WordBits.{modulo_64-added}

@@ -1,4 +1,4 @@
-use Rattle.std.proofs.Common.{◌≡◌, ◌<◌, ◌^◌, rules, arith}
+use Rattle.std.proofs.Common.{◌<◌, ◌^◌, rules, arith}
 use Rattle.coproc_config.proofs.WordBits.{with_field-below}
 use Rattle.coproc_config.proofs.compute.insert.Goals as goal
 

@@ -1,4 +1,4 @@
-use Rattle.std.proofs.Common.{◌≡◌, ◌∙◌, ap, arith, ◌%◌, ◌^◌}
+use Rattle.std.proofs.Common.{◌∙◌, ap, arith, ◌%◌, ◌^◌}
 use Rattle.coproc_config.proofs.WordBits.{and_low}
 use Rattle.coproc_config.proofs.compute.low_bits.Goals as goal
 

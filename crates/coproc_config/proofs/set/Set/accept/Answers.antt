@@ -1,8 +1,6 @@
-use Rattle.std.proofs.Common.{◌≡◌, ◌<◌, ◌≤◌, ℕ, Option, Some, None, length, slice_get, sym, ap, ◌∙◌, arith}
-use Rattle.std.specs.List.{find}
-use Rattle.std.specs.Option.{option_map}
-use Rattle.coproc_config.specs.Set.{UnitTable, Place, places_of}
-use Rattle.coproc_config.specs.Accept.{takes, hit_at, entry_at}
+use Rattle.std.proofs.Common.{sym, ◌∙◌}
+use Rattle.coproc_config.specs.Set.{places_of}
+use Rattle.coproc_config.specs.Accept.{takes, hit_at}
 use Rattle.coproc_config.proofs.Finds.{missed, met}
 use Rattle.coproc_config.proofs.Hits.{entry_at-unit}
 use Rattle.coproc_config.proofs.Sizes.{entries-few}

@@ -1,8 +1,8 @@
-use Rattle.std.proofs.Common.{◌≡◌, ◌<◌, ◌≤◌, ℕ, Some, slice_get, refl, sym, ap, ◌∙◌}
+use Rattle.std.proofs.Common.{◌≡◌, Some, slice_get, refl, sym, ap, ◌∙◌}
 use Rattle.coproc_config.specs.Table.{line}
 use Rattle.coproc_config.specs.Accept.{entry_at}
 use Rattle.coproc_config.proofs.Hits.{entry_at-unit}
-use Rattle.coproc_config.proofs.Sizes.{HasNamed, entry-named}
+use Rattle.coproc_config.proofs.Sizes.{entry-named}
 use Rattle.coproc_config.proofs.States.{accumulator-there, IsStateOf-with_accumulator}
 use Rattle.coproc_config.proofs.set.Set.apply.Goals as goal
 

@@ -1,7 +1,6 @@
-use Rattle.std.proofs.Common.{◌≡◌, ◌≤◌, length, Result, sym, ◌∙◌, arith}
+use Rattle.std.proofs.Common.{◌≤◌, length, sym, ◌∙◌, arith}
 use Rattle.std.proofs.lemmas.Result.{err_from_is_err_and}
-use Rattle.xif_base.specs.Checks.{first_fault}
-use Rattle.coproc_config.specs.Check.{size_checks, all_entry_checks, checks}
+use Rattle.coproc_config.specs.Check.{size_checks, all_entry_checks}
 use Rattle.coproc_config.proofs.Checks.{first_fault-append-ok, first_fault-append-err}
 use Rattle.coproc_config.proofs.Sizes.{checks-few, lawful-from_first}
 use Rattle.coproc_config.proofs.set.Set.check.Goals as goal

@@ -1,9 +1,7 @@
-use Rattle.std.proofs.Common.{◌≡◌, ◌==◌, ◌&&◌, ℕ, Bool, true, false, cond, List, [], ◌∷◌, Option, Some, None, sym, ap, ◌∙◌}
-use Rattle.std.specs.List.{find}
+use Rattle.std.proofs.Common.{◌≡◌, ℕ, true, false, cond, [], ◌∷◌, Some, None, sym, ap, ◌∙◌}
 use Rattle.std.specs.Option.{option_map}
-use Rattle.coproc_config.specs.declared.operation.Entry.{Entry}
 use Rattle.coproc_config.specs.declared.accept.Hit.{Hit}
-use Rattle.coproc_config.specs.Set.{UnitTable, Place, place_of}
+use Rattle.coproc_config.specs.Set.{UnitTable, place_of}
 use Rattle.coproc_config.specs.Accept.{takes, hit_at, read_flags}
 use Rattle.coproc_config.specs.Table.{write_flags}
 use Rattle.coproc_config.proofs.Finds.{missed, met}

@@ -1,6 +1,6 @@
-use Rattle.std.proofs.Common.{◌≡◌, ◌+◌, ◌++◌, [], ◌∷◌, take, replicate, arith, ap, sym, ◌∙◌}
+use Rattle.std.proofs.Common.{◌≡◌, ◌+◌, ◌++◌, [], ◌∷◌, take, replicate, arith, ap}
 use Rattle.std.proofs.lemmas.Grind.{common_steps}
-use Rattle.coproc_config.specs.State.{zeros, IsStateOf}
+use Rattle.coproc_config.specs.State.{zeros}
 use Rattle.coproc_config.proofs.States.{IsStateOf-zeros, zeros-more}
 use Rattle.coproc_config.proofs.state.UnitState.new.Goals as goal
 

@@ -1,7 +1,7 @@
 use Rattle.std.proofs.Common.{◌≡◌, arith}
 use Rattle.std.proofs.lemmas.Grind.{common_steps}
 use Rattle.std.proofs.Math.ListN.{set}
-use Rattle.coproc_config.specs.State.{with_accumulator, accumulator_of}
+use Rattle.coproc_config.specs.State.{with_accumulator}
 use Rattle.coproc_config.proofs.States.{others-with_accumulator}
 use Rattle.coproc_config.proofs.state.UnitState.put.Goals as goal
 
