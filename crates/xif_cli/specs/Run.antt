@@ -1,5 +1,5 @@
 -- What `raw` runs and prints.
-use Rattle.std.specs.Prelude.{ℕ, List, [], replicate, true, false}
+use Rattle.std.specs.Prelude.{ℕ, List, [], replicate, false}
 use Rattle.inorder_machine.specs.Machine.{Extension, State}
 use Rattle.inorder_machine.specs.After.{retired_within, last_within, stop_within}
 use Rattle.xif_base.specs.declared.params.Params.{Params}

@@ -6,6 +6,7 @@ use super::*;
 use crate::{Store, Write};
 use coproc_config::{Entry, Op};
 use std::alloc::Global;
+use std::process::Abort;
 use std::test::Fail;
 use xif_base::NoMemory;
 use xif_image::Image;
@@ -23,7 +24,7 @@ const PARAMS: Params = Params {
 };
 
 /// One unit with an accumulator and four entries.
-fn four_entries(alloc: Global) -> Result<Set, NoMemory> {
+fn four_entries(rt: &impl Abort, alloc: Global) -> Result<Set, NoMemory> {
     let mut set = Set::new(alloc);
     set.unit(1)?;
     for (matched, op) in [
@@ -32,6 +33,7 @@ fn four_entries(alloc: Global) -> Result<Set, NoMemory> {
         (0x0000_300b, Op::PairMul),
         (0x0000_400b, Op::PairSum),
     ] {
+        assert!(rt; set.len() > 0);
         set.entry(Entry {
             mask: 0x0000_707f,
             matched,
@@ -59,7 +61,7 @@ fn machine(alloc: Global, set: &Set, words: &[u32; 6]) -> Result<Machine, Fail>
 
 #[test]
 fn steps_through_stores_and_units(rt: HostRuntime) -> Result<(), Fail> {
-    let set = four_entries(rt.alloc())?;
+    let set = four_entries(&rt, rt.alloc())?;
     assert!(rt; set.check().is_ok() && PARAMS.check().is_ok());
     // addi x1, x0, 291; sb x1, 21(x0); acc_add x1; acc_read_low x5; ecall
     let words = [
@@ -106,7 +108,7 @@ fn steps_through_stores_and_units(rt: HostRuntime) -> Result<(), Fail> {
 
 #[test]
 fn reads_and_writes_pairs(rt: HostRuntime) -> Result<(), Fail> {
-    let set = four_entries(rt.alloc())?;
+    let set = four_entries(&rt, rt.alloc())?;
     assert!(rt; set.check().is_ok() && PARAMS.check().is_ok());
     for (words, retired, stop, registers) in [
         // pair_sum of x2 and x3, and then of an odd field
