@@ -39,18 +39,25 @@ fn a_shelf_in_memory_fails_by_number_and_moves_by_its_grain(rt: HostRuntime) -> 
 fn a_shelf_in_memory_is_written(rt: HostRuntime) -> Result<(), Fail> {
     let mut shelf = MemShelf::new(rt.alloc(), 3, &[], &[1], &[2])?;
     shelf.insert("digits", b"0")?;
-    assert_eq!(rt; shelf.append("letters", b"ab"), Err(WriteFail::Failed));
-    assert_eq!(rt; shelf.bytes("letters"), None);
-    assert_eq!(rt; shelf.start("letters"), Ok(()));
-    assert_eq!(rt; shelf.append("letters", LETTERS), Ok(3));
-    assert_eq!(rt; shelf.append("letters", b"de"), Ok(2));
-    assert_eq!(rt; shelf.append("letters", b"fg"), Err(WriteFail::Failed));
-    assert_eq!(rt; shelf.bytes("letters"), Some(b"abcde".as_slice()));
-    assert_eq!(rt; shelf.start("letters"), Err(WriteFail::Failed));
-    assert_eq!(rt; shelf.bytes("letters"), Some(b"abcde".as_slice()));
-    assert_eq!(rt; shelf.start("letters"), Ok(()));
-    assert_eq!(rt; shelf.bytes("letters"), Some(b"".as_slice()));
-    assert_eq!(rt; shelf.bytes("digits"), Some(b"0".as_slice()));
+    // A start where there is no piece, else an append; its answer, and the file after it.
+    let cases: [(Option<&[u8]>, Result<usize, WriteFail>, Option<&[u8]>); 7] = [
+        (Some(b"ab"), Err(WriteFail::Failed), None),
+        (None, Ok(0), Some(b"")),
+        (Some(LETTERS), Ok(3), Some(b"abc")),
+        (Some(b"de"), Ok(2), Some(b"abcde")),
+        (Some(b"fg"), Err(WriteFail::Failed), Some(b"abcde")),
+        (None, Err(WriteFail::Failed), Some(b"abcde")),
+        (None, Ok(0), Some(b"")),
+    ];
+    for (piece, want, bytes) in cases {
+        let got = match piece {
+            Some(piece) => shelf.append("letters", piece),
+            None => shelf.start("letters").map(|_| 0),
+        };
+        assert_eq!(rt; got, want, "{piece:?}");
+        assert_eq!(rt; shelf.bytes("letters"), bytes, "{piece:?}");
+        assert_eq!(rt; shelf.bytes("digits"), Some(b"0".as_slice()));
+    }
     Ok(())
 }
 
