@@ -1,18 +1,32 @@
 -- The fields of a job file: a line for each, in the order in which they are read, with its range and its default. The order
 -- of the lines is the order in which faults are told. A default is None where the field is needed.
-use Rattle.std.specs.Prelude.{◌+◌, ◌-◌, ◌^◌, ℕ, true, false, List, [], ◌∷◌, Some, Result, Ok, Err, nat_le, codes}
-use Rattle.toml.specs.Data.{Members, get_member}
+use Rattle.std.specs.Prelude.{◌≡◌, ◌+◌, ◌-◌, ◌^◌, ℕ, Bool, true, false, cond, List, [], ◌∷◌, Option, Some, None, Result, Ok, Err, nat_le, min, codes}
+use Rattle.toml.specs.Data.{Data, Members, get_member}
 use Rattle.xif_base.specs.Checks.{first_fault}
 use Rattle.xif_base.specs.Params.{ranges}
 use Rattle.xif_base.specs.declared.params.ParamFault.{ParamFault}
 use Rattle.xif_base.specs.declared.params.Params.{Params}
+use Rattle.coproc_config.specs.Set.{UnitTable}
+use Rattle.coproc_config.specs.declared.check.SetFault.{SetFault}
+use Rattle.coproc_config.specs.declared.operation.Entry.{Entry}
+use Rattle.coproc_config.specs.declared.operation.Op.{Op}
+use Rattle.coproc_config.specs.declared.operation.Op.TheVariants as ops
 use Rattle.xif_job.specs.Field.{param_field}
 use Rattle.xif_job.specs.declared.field.Field.TheVariants as fields
 use Rattle.xif_job.specs.declared.field.JobFault.{JobFault}
 use Rattle.xif_job.specs.declared.field.JobFault.TheVariants.{OutOfRange}
+use Rattle.xif_job.specs.declared.field.JobFault.TheVariants as faults
 use Rattle.xif_job.specs.declared.memory.MemoryRange.{MemoryRange}
+use Rattle.xif_job.specs.declared.image.Image.{Image}
+use Rattle.xif_job.specs.declared.image.ImageKind.{ImageKind}
+use Rattle.xif_job.specs.declared.image.ImageKind.TheVariants.{Text, Raw}
+use Rattle.xif_job.specs.declared.core_table.Core.{Core}
+use Rattle.xif_job.specs.declared.core_table.Kind.{Kind}
+use Rattle.xif_job.specs.declared.core_table.Kind.TheVariants as kinds
+use Rattle.xif_job.specs.declared.core_table.KindName.{KindName}
+use Rattle.xif_job.specs.declared.core_table.KindName.TheVariants as names
 use Rattle.xif_job.specs.Outcome.{◌>>=◌}
-use Rattle.xif_job.specs.Readers.{demand, number_in, word_in, port_width_in, flag_in, table_in}
+use Rattle.xif_job.specs.Readers.{demand, number_in, word_in, port_width_in, flag_in, text_in, choice_in, numbers_in, each, array_in, table_in}
 
 abbrev pub params_names : List (List ℕ)
 params_names =
@@ -63,3 +77,100 @@ memory_of top = do
   size ← word_in fields.MemorySize 4 1048576 (Some 65536) (get_member (codes "size") t)
   _ ← demand fields.MemorySize (nat_le (base + size) (2 ^ 32))
   Ok (record { base = base; size = size })
+
+abbrev pub image_file_of : Bool → Option Data → Result (List ℕ) JobFault
+image_file_of needs_image found = text_in fields.ImageFile (cond needs_image None (Some [])) found
+
+abbrev pub image_kind_of : Option Data → Result ImageKind JobFault
+image_kind_of found = choice_in fields.ImageKind ((codes "text", Text) ∷ (codes "raw", Raw) ∷ []) (Some Text) found
+
+unfoldable pub image_of : Bool → ℕ → Members → Result Image JobFault
+image_of needs_image base top = do
+  t ← table_in fields.ImageFile (codes "file" ∷ codes "kind" ∷ codes "load" ∷ codes "entry" ∷ []) (get_member (codes "image") top)
+  file ← image_file_of needs_image (get_member (codes "file") t)
+  kind ← image_kind_of (get_member (codes "kind") t)
+  load ← number_in fields.ImageLoad 0 (2 ^ 32 - 1) (Some base) (get_member (codes "load") t)
+  entry ← word_in fields.ImageEntry 0 (2 ^ 32 - 4) (Some base) (get_member (codes "entry") t)
+  Ok (record { source = record { file = file; kind = kind; load = load }; entry = entry })
+
+abbrev pub predictor_of : Option Data → Result KindName JobFault
+predictor_of found =
+    let predictors : List (List ℕ × KindName) =
+        (codes "never", names.Never)
+        ∷ (codes "backward", names.Backward)
+        ∷ (codes "bimodal", names.Bimodal)
+        ∷ (codes "listed", names.Listed)
+        ∷ []
+    in choice_in fields.CorePredictor predictors (Some names.Never) found
+
+abbrev pub kind_of : KindName → ℕ → List ℕ → Kind
+kind_of names.Never bits targets = kinds.Never
+kind_of names.Backward bits targets = kinds.Backward
+kind_of names.Bimodal bits targets = kinds.Bimodal bits
+kind_of names.Listed bits targets = kinds.Listed targets
+
+abbrev pub core_names : List (List ℕ)
+core_names = codes "window" ∷ codes "budget" ∷ codes "predictor" ∷ codes "bits" ∷ codes "targets" ∷ []
+
+unfoldable pub core_of : ℕ → Members → Result Core JobFault
+core_of id_width top = do
+  t ← table_in fields.CoreWindow core_names (get_member (codes "core") top)
+  window ← number_in fields.CoreWindow 1 (min 32 (2 ^ id_width)) (Some 8) (get_member (codes "window") t)
+  budget ← number_in fields.CoreBudget 1 200000 (Some 10000) (get_member (codes "budget") t)
+  name ← predictor_of (get_member (codes "predictor") t)
+  bits ← number_in fields.CoreBits 1 12 (Some 8) (get_member (codes "bits") t)
+  targets ← numbers_in fields.CoreTargets 1 64 (2 ^ 32 - 1) (get_member (codes "targets") t)
+  Ok (record { window = window; budget = budget; predictor = kind_of name bits targets })
+
+abbrev pub operation_of : Option Data → Result Op JobFault
+operation_of found =
+    let operations : List (List ℕ × Op) =
+        (codes "extract_u", ops.ExtractU)
+        ∷ (codes "extract_s", ops.ExtractS)
+        ∷ (codes "insert", ops.Insert)
+        ∷ (codes "reverse", ops.Reverse)
+        ∷ (codes "ones", ops.Ones)
+        ∷ (codes "merge", ops.Merge)
+        ∷ (codes "acc_clear", ops.AccClear)
+        ∷ (codes "acc_add", ops.AccAdd)
+        ∷ (codes "acc_mac", ops.AccMac)
+        ∷ (codes "acc_read_low", ops.AccReadLow)
+        ∷ (codes "acc_read_high", ops.AccReadHigh)
+        ∷ (codes "acc_swap", ops.AccSwap)
+        ∷ (codes "pair_add", ops.PairAdd)
+        ∷ (codes "pair_mul", ops.PairMul)
+        ∷ (codes "pair_read", ops.PairRead)
+        ∷ (codes "pair_sum", ops.PairSum)
+        ∷ []
+    in choice_in fields.UnitEntryOp operations None found
+
+abbrev pub entry_names : List (List ℕ)
+entry_names = codes "mask" ∷ codes "match" ∷ codes "op" ∷ codes "acc" ∷ codes "low" ∷ codes "len" ∷ []
+
+-- an item of `unit.entry`
+unfoldable pub entry_in : Data → Result Entry JobFault
+entry_in d = do
+  t ← table_in fields.UnitEntry entry_names (Some d)
+  mask ← number_in fields.UnitEntryMask 0 (2 ^ 32 - 1) None (get_member (codes "mask") t)
+  matched ← number_in fields.UnitEntryMatch 0 (2 ^ 32 - 1) None (get_member (codes "match") t)
+  op ← operation_of (get_member (codes "op") t)
+  acc ← number_in fields.UnitEntryAcc 0 15 (Some 0) (get_member (codes "acc") t)
+  low ← number_in fields.UnitEntryLow 0 31 (Some 0) (get_member (codes "low") t)
+  len ← number_in fields.UnitEntryLen 1 32 (Some 32) (get_member (codes "len") t)
+  Ok (record { mask = mask; matched = matched; op = op; acc = acc; low = low; len = len })
+
+-- an item of `unit`
+unfoldable pub unit_in : Data → Result UnitTable JobFault
+unit_in d = do
+  t ← table_in fields.Unit (codes "accumulators" ∷ codes "entry" ∷ []) (Some d)
+  accumulators ← number_in fields.UnitAccumulators 0 16 (Some 0) (get_member (codes "accumulators") t)
+  entries ← array_in fields.UnitEntry (get_member (codes "entry") t) >>= each entry_in
+  Ok (record { accumulators = accumulators; entries = entries })
+
+unfoldable pub units_of : Members → Result (List UnitTable) JobFault
+units_of top = array_in fields.Unit (get_member (codes "unit") top) >>= each unit_in
+
+-- the first fault of the units as a set
+abbrev pub lawful : Result Unit SetFault → Result Unit JobFault
+lawful (Ok _) = Ok tt
+lawful (Err e) = Err (faults.Set e)

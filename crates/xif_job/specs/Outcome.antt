@@ -1,5 +1,5 @@
 -- What reading gives: a value, or the first fault.
-use Rattle.std.specs.Prelude.{◌≡◌, Bool, cond, Option, Some, None, Result, Ok, Err}
+use Rattle.std.specs.Prelude.{◌≡◌, ◌++◌, Bool, cond, List, [], ◌∷◌, Option, Some, None, Result, Ok, Err}
 use Rattle.xif_job.specs.declared.field.Field.{Field}
 use Rattle.xif_job.specs.declared.field.JobFault.{JobFault}
 use Rattle.xif_job.specs.declared.field.JobFault.TheVariants.{MissingField, NoMemory}
@@ -18,6 +18,10 @@ unless test fault = cond test (Ok tt) (Err fault)
 abbrev pub default : {A : Type 0} → Field → Option A → Result A JobFault
 default field (Some x) = Ok x
 default field None = Err (MissingField field)
+
+-- a list with what is read at its end
+abbrev pub added : {A : Type 0} → List A → Result A JobFault → Result (List A) JobFault
+added front read = read >>= λ x. Ok (front ++ x ∷ [])
 
 -- what a function returned, as view sees it, is what reading gives, unless memory ran out
 abbrev pub Fails : {Y : Type 0} → JobFault → Result Y JobFault → Type 0

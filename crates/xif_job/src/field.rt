@@ -3,7 +3,8 @@ ghost use Rattle.std.specs.Prelude.{◌≡◌};
 ghost use Rattle.xif_job.specs.Field.{dotted, param_field};
 
 use coproc_config::SetFault;
-use xif_base::ParamFault;
+use std::alloc::{AllocError, AllocFailed};
+use xif_base::{NoMemory, ParamFault};
 
 /// A field of a job file. An array of tables is a field too.
 #[derive(Clone, Copy, Debug, PartialEq, Eq)]
@@ -60,6 +61,39 @@ pub enum JobFault {
     NoMemory,
     /// The job has a table that is not read yet: `script`, `trace` or `map`.
     Unbuilt,
+}
+
+impl From<AllocError> for JobFault {
+    ghost use Rattle.std.specs.Prelude.{◌≡◌};
+    ghost use Rattle.xif_job.specs.declared.field.JobFault.TheVariants.{NoMemory};
+
+    ghost from_gives = { λ _ e. e ≡ NoMemory };
+
+    fn from(_: AllocError) -> Self {
+        JobFault::NoMemory
+    }
+}
+
+impl<T: Drop> From<AllocFailed<T>> for JobFault {
+    ghost use Rattle.std.specs.Prelude.{◌≡◌};
+    ghost use Rattle.xif_job.specs.declared.field.JobFault.TheVariants.{NoMemory};
+
+    ghost from_gives = { λ _ e. e ≡ NoMemory };
+
+    fn from(_: AllocFailed<T>) -> Self {
+        JobFault::NoMemory
+    }
+}
+
+impl From<NoMemory> for JobFault {
+    ghost use Rattle.std.specs.Prelude.{◌≡◌};
+    ghost use Rattle.xif_job.specs.declared.field.JobFault.TheVariants.{NoMemory};
+
+    ghost from_gives = { λ _ e. e ≡ NoMemory };
+
+    fn from(_: NoMemory) -> Self {
+        JobFault::NoMemory
+    }
 }
 
 impl Field {

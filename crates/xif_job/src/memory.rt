@@ -17,7 +17,7 @@ pub(crate) struct MemoryRange {
 
 /// The table `memory`.
 #[tactic(auto, unfolding(crate::specs::FieldTable::memory_of))]
-pub(crate) fn memory(top: &Table) -> Result<MemoryRange, JobFault>
+pub(crate) fn read_memory(top: &Table) -> Result<MemoryRange, JobFault>
     ensures { Gives (λ m. m) result (memory_of (table_view top.now)) }
 {
     let table = table(

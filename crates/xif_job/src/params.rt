@@ -14,7 +14,7 @@ use xif_base::Params;
 
 /// The table `params`.
 #[tactic(auto, unfolding(crate::specs::FieldTable::params_of))]
-pub(crate) fn params(top: &Table) -> Result<Params, JobFault>
+pub(crate) fn read_params(top: &Table) -> Result<Params, JobFault>
     ensures value { Gives (λ p. p) result (params_of (table_view top.now)) }
     ensures in_range { IfOk result IsInRange }
 {
