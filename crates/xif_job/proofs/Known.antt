@@ -34,7 +34,7 @@ count-is (v ∷ vs) = ap suc (count-is vs)
 
 -- 2 ^ 5 is no more than the number of ids of 5 bits or more
 pub window-most : (w : ℕ) → 5 ≤ w → 32 ≡ min 32 (2 ^ w)
-window-most w h = let le : 2 ^ 5 ≤ 2 ^ w = pow-le-pow_right {2} (omega arith) {5} {w} h in grind (arith, nat_tests)
+window-most w h = let le : 2 ^ 5 ≤ 2 ^ w = pow-le-pow_right {n = 2} (omega arith) {i = 5} {j = w} h in grind (arith, nat_tests)
 
 not_true : (b : Bool) → (b ≡ true → ⊥) → b ≡ false
 not_true true h = absurd (h refl)

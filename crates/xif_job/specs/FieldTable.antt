@@ -1,6 +1,6 @@
 -- The fields of a job file: a line for each, in the order in which they are read, with its range and its default. The order
 -- of the lines is the order in which faults are told. A default is None where the field is needed.
-use Rattle.std.specs.Prelude.{◌≡◌, ◌+◌, ◌-◌, ◌^◌, ℕ, Bool, true, false, cond, List, [], ◌∷◌, Option, Some, None, Result, Ok, Err, nat_le, min, codes}
+use Rattle.std.specs.Prelude.{◌≡◌, ◌+◌, ◌-◌, ◌^◌, ◌||◌, ℕ, Bool, true, false, not, cond, List, [], ◌∷◌, Option, Some, None, is_some, Result, Ok, Err, nat_le, min, codes}
 use Rattle.toml.specs.Data.{Data, Members, get_member}
 use Rattle.xif_base.specs.Checks.{first_fault}
 use Rattle.xif_base.specs.Params.{ranges}
@@ -14,7 +14,7 @@ use Rattle.coproc_config.specs.declared.operation.Op.TheVariants as ops
 use Rattle.xif_job.specs.Field.{param_field}
 use Rattle.xif_job.specs.declared.field.Field.TheVariants as fields
 use Rattle.xif_job.specs.declared.field.JobFault.{JobFault}
-use Rattle.xif_job.specs.declared.field.JobFault.TheVariants.{OutOfRange}
+use Rattle.xif_job.specs.declared.field.JobFault.TheVariants.{NotToml, OutOfRange, UnknownField, Unbuilt}
 use Rattle.xif_job.specs.declared.field.JobFault.TheVariants as faults
 use Rattle.xif_job.specs.declared.memory.MemoryRange.{MemoryRange}
 use Rattle.xif_job.specs.declared.image.Image.{Image}
@@ -25,8 +25,13 @@ use Rattle.xif_job.specs.declared.core_table.Kind.{Kind}
 use Rattle.xif_job.specs.declared.core_table.Kind.TheVariants as kinds
 use Rattle.xif_job.specs.declared.core_table.KindName.{KindName}
 use Rattle.xif_job.specs.declared.core_table.KindName.TheVariants as names
-use Rattle.xif_job.specs.Outcome.{◌>>=◌}
-use Rattle.xif_job.specs.Readers.{demand, number_in, word_in, port_width_in, flag_in, text_in, choice_in, numbers_in, each, array_in, table_in}
+use Rattle.coproc_config.specs.Check.{checks}
+use Rattle.std.specs.Option.{ok_or}
+use Rattle.std.specs.Str.{bytes_eq}
+use Rattle.xif_job.specs.Document.{document_of}
+use Rattle.xif_job.specs.declared.job.Job.{Job}
+use Rattle.xif_job.specs.Outcome.{◌>>=◌, unless}
+use Rattle.xif_job.specs.Readers.{demand, number_in, word_in, port_width_in, flag_in, text_in, choice_in, numbers_in, each, array_in, are_known, table_in}
 
 abbrev pub params_names : List (List ℕ)
 params_names =
@@ -174,3 +179,51 @@ units_of top = array_in fields.Unit (get_member (codes "unit") top) >>= each uni
 abbrev pub lawful : Result Unit SetFault → Result Unit JobFault
 lawful (Ok _) = Ok tt
 lawful (Err e) = Err (faults.Set e)
+
+-- the image's file is neither the waveform's nor the log's
+abbrev pub differ : List ℕ → Result Unit JobFault
+differ file = do
+  _ ← demand fields.TraceVcd (not (bytes_eq file (codes "trace.vcd")))
+  demand fields.TraceLog (not (bytes_eq file (codes "trace.log")))
+
+-- the tables in their order, and then the checks of the set
+unfoldable pub job_of : Bool → Members → Result Job JobFault
+job_of needs_image top = do
+  params ← params_of top
+  memory ← memory_of top
+  image ← image_of needs_image memory.base top
+  core ← core_of params.id_width top
+  set ← units_of top
+  _ ← differ image.source.file
+  _ ← lawful (first_fault (checks set))
+  Ok (record {
+    params = params;
+    image = image.source;
+    base = memory.base;
+    size = memory.size;
+    entry = image.entry;
+    window = core.window;
+    budget = core.budget;
+    predictor = core.predictor;
+    set = set;
+    trace = codes "trace.vcd";
+    log = codes "trace.log";
+  })
+
+-- a table at the top level is one that is not read yet
+abbrev pub is_unbuilt : Members → Bool
+is_unbuilt top =
+    is_some (get_member (codes "script") top) || is_some (get_member (codes "trace") top) || is_some (get_member (codes "map") top)
+
+abbrev pub table_names : List (List ℕ)
+table_names = codes "params" ∷ codes "memory" ∷ codes "image" ∷ codes "core" ∷ codes "unit" ∷ []
+
+abbrev pub all_of : Bool → Members → Result Job JobFault
+all_of needs_image top = do
+  _ ← unless (not (is_unbuilt top)) Unbuilt
+  _ ← unless (are_known table_names top) UnknownField
+  job_of needs_image top
+
+-- what the bytes of a job file say
+abbrev pub read_of : Bool → List ℕ → Result Job JobFault
+read_of needs_image bytes = ok_or (document_of bytes) NotToml >>= all_of needs_image

@@ -1,5 +1,5 @@
 // The memory of a job.
-ghost use Rattle.std.specs.Prelude.{◌≡◌, ◌≤◌, IfOk};
+ghost use Rattle.std.specs.Prelude.{◌≡◌, ◌≤◌, ◌-◌, ◌^◌, IfOk};
 ghost use Rattle.toml.specs.View.{table_view};
 ghost use Rattle.xif_job.specs.FieldTable.{memory_of};
 ghost use Rattle.xif_job.specs.Outcome.{Gives};
@@ -18,7 +18,8 @@ pub(crate) struct MemoryRange {
 /// The table `memory`.
 #[tactic(auto, unfolding(crate::specs::FieldTable::memory_of))]
 pub(crate) fn read_memory(top: &Table) -> Result<MemoryRange, JobFault>
-    ensures { Gives (λ m. m) result (memory_of (table_view top.now)) }
+    ensures value { Gives (λ m. m) result (memory_of (table_view top.now)) }
+    ensures base { IfOk result (λ m. m.base ≤ 2 ^ 32 - 4) }
 {
     let table = table(
         Field::MemoryBase,

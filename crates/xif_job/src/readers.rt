@@ -298,7 +298,7 @@ pub(crate) fn table<'a>(
 }
 
 /// Each name in a table is one of these.
-fn has_only(table: &Table, names: &[&str]) -> bool
+pub(crate) fn has_only(table: &Table, names: &[&str]) -> bool
     ensures { result ≡ are_known (map (λ n. n.now) names.now) (table_view table.now) }
 {
     has_keys_among(table, names)
