@@ -1,5 +1,5 @@
 -- Names of a table, and bytes that are text.
-use Rattle.std.proofs.Common.{◌≡◌, ◌≤◌, ◌^◌, List, [], ◌∷◌, Bool, true, false, cond, ◌&&◌, ◌||◌, map, Bor, refl, ap, sym, ◌∙◌, String, string_bytes, ℕ, suc, min, length, is_some, arith, Option, Some, None, Err}
+use Rattle.std.proofs.Common.{◌≡◌, ◌≤◌, ◌^◌, List, [], ◌∷◌, Bool, true, false, cond, ◌&&◌, ◌||◌, map, Bor, refl, ap, String, string_bytes, ℕ, suc, min, length, is_some, arith, None}
 use Rattle.std.specs.declared.alloc.Global.{Global}
 use Rattle.std.specs.List.{list_all, list_any}
 use Rattle.std.specs.Str.{bytes_eq, IsUtf8, is_utf8}

@@ -14,6 +14,10 @@ last_entry us u e =
     rw (last, get_or-append_seam us u [] (new_unit 0), set-append_seam us u [] (with_entry u e))
 
 -- one more entry of a list is added
-pub grown : (us : List UnitTable) (accumulators : ℕ) (es : List Entry) (i : ℕ) (d : Entry) → i < length es
-    → with_last_entry (us ++ unit_of accumulators (take i es) ∷ []) (get_or es i d) ≡ us ++ unit_of accumulators (take (i + 1) es) ∷ []
-grown us accumulators es i d h = last_entry us (unit_of accumulators (take i es)) (get_or es i d) ∙ ap (λ xs. us ++ unit_of accumulators xs ∷ []) (sym (take_more es i d h))
+pub grown : (new set us : List UnitTable) (accumulators : ℕ) (es : List Entry) (i : ℕ) (d : Entry) → i < length es → new ≡ with_last_entry set (get_or es i d)
+    → set ≡ us ++ unit_of accumulators (take i es) ∷ [] → new ≡ us ++ unit_of accumulators (take (i + 1) es) ∷ []
+grown new set us accumulators es i d h one so_far =
+    one
+    ∙ ap (λ s. with_last_entry s (get_or es i d)) so_far
+    ∙ last_entry us (unit_of accumulators (take i es)) (get_or es i d)
+    ∙ ap (λ xs. us ++ unit_of accumulators xs ∷ []) (sym (take_more es i d h))

@@ -1,13 +1,12 @@
 -- Reading the items of an array one after the other, as a loop does.
-use Rattle.std.proofs.Common.{◌≡◌, ℕ, zero, suc, ◌+◌, ◌≤◌, ◌<◌, List, [], ◌∷◌, ◌++◌, map, length, get_or, drop, Result, Ok, Err, refl, sym, ap, ◌∙◌, append_assoc, arith}
+use Rattle.std.proofs.Common.{◌≡◌, ℕ, ◌+◌, ◌≤◌, ◌<◌, List, [], ◌∷◌, ◌++◌, length, get_or, drop, Result, Ok, Err, refl, sym, ap, ◌∙◌, append_assoc}
 use Rattle.std.proofs.lemmas.List.{append-nil, drop_all}
-use Rattle.toml.specs.Data.{Data, Items, no_items, item}
+use Rattle.toml.specs.Data.{Data}
 use Rattle.toml.specs.View.{view, items_view}
 use Rattle.toml.specs.declared.value.Value.{Value}
 use Rattle.toml.proofs.Views.{items_view-drop}
 use Rattle.xif_job.specs.declared.field.JobFault.{JobFault}
-use Rattle.xif_job.specs.declared.field.JobFault.TheVariants as faults
-use Rattle.xif_job.specs.Outcome.{◌>>=◌, Fails}
+use Rattle.xif_job.specs.Outcome.{◌>>=◌}
 use Rattle.xif_job.specs.Readers.{each}
 
 -- what was read before, and what is still read

@@ -1,6 +1,6 @@
 -- The fields of a job file: a line for each, in the order in which they are read, with its range and its default. The order
 -- of the lines is the order in which faults are told. A default is None where the field is needed.
-use Rattle.std.specs.Prelude.{◌≡◌, ◌+◌, ◌-◌, ◌^◌, ◌||◌, ℕ, Bool, true, false, not, cond, List, [], ◌∷◌, Option, Some, None, is_some, Result, Ok, Err, nat_le, min, codes}
+use Rattle.std.specs.Prelude.{◌+◌, ◌-◌, ◌^◌, ◌||◌, ℕ, Bool, true, false, not, cond, List, [], ◌∷◌, Option, Some, None, is_some, Result, Ok, Err, nat_le, min, codes}
 use Rattle.toml.specs.Data.{Data, Members, get_member}
 use Rattle.xif_base.specs.Checks.{first_fault}
 use Rattle.xif_base.specs.Params.{ranges}
@@ -101,11 +101,11 @@ image_of needs_image base top = do
 abbrev pub predictor_of : Option Data → Result KindName JobFault
 predictor_of found =
     let predictors : List (List ℕ × KindName) =
-        (codes "never", names.Never)
-        ∷ (codes "backward", names.Backward)
-        ∷ (codes "bimodal", names.Bimodal)
-        ∷ (codes "listed", names.Listed)
-        ∷ []
+    (codes "never", names.Never)
+    ∷ (codes "backward", names.Backward)
+    ∷ (codes "bimodal", names.Bimodal)
+    ∷ (codes "listed", names.Listed)
+    ∷ []
     in choice_in fields.CorePredictor predictors (Some names.Never) found
 
 abbrev pub kind_of : KindName → ℕ → List ℕ → Kind
@@ -130,23 +130,23 @@ core_of id_width top = do
 abbrev pub operation_of : Option Data → Result Op JobFault
 operation_of found =
     let operations : List (List ℕ × Op) =
-        (codes "extract_u", ops.ExtractU)
-        ∷ (codes "extract_s", ops.ExtractS)
-        ∷ (codes "insert", ops.Insert)
-        ∷ (codes "reverse", ops.Reverse)
-        ∷ (codes "ones", ops.Ones)
-        ∷ (codes "merge", ops.Merge)
-        ∷ (codes "acc_clear", ops.AccClear)
-        ∷ (codes "acc_add", ops.AccAdd)
-        ∷ (codes "acc_mac", ops.AccMac)
-        ∷ (codes "acc_read_low", ops.AccReadLow)
-        ∷ (codes "acc_read_high", ops.AccReadHigh)
-        ∷ (codes "acc_swap", ops.AccSwap)
-        ∷ (codes "pair_add", ops.PairAdd)
-        ∷ (codes "pair_mul", ops.PairMul)
-        ∷ (codes "pair_read", ops.PairRead)
-        ∷ (codes "pair_sum", ops.PairSum)
-        ∷ []
+    (codes "extract_u", ops.ExtractU)
+    ∷ (codes "extract_s", ops.ExtractS)
+    ∷ (codes "insert", ops.Insert)
+    ∷ (codes "reverse", ops.Reverse)
+    ∷ (codes "ones", ops.Ones)
+    ∷ (codes "merge", ops.Merge)
+    ∷ (codes "acc_clear", ops.AccClear)
+    ∷ (codes "acc_add", ops.AccAdd)
+    ∷ (codes "acc_mac", ops.AccMac)
+    ∷ (codes "acc_read_low", ops.AccReadLow)
+    ∷ (codes "acc_read_high", ops.AccReadHigh)
+    ∷ (codes "acc_swap", ops.AccSwap)
+    ∷ (codes "pair_add", ops.PairAdd)
+    ∷ (codes "pair_mul", ops.PairMul)
+    ∷ (codes "pair_read", ops.PairRead)
+    ∷ (codes "pair_sum", ops.PairSum)
+    ∷ []
     in choice_in fields.UnitEntryOp operations None found
 
 abbrev pub entry_names : List (List ℕ)

@@ -1,5 +1,5 @@
 -- The kinds of fields: what is read at a name of a table, and which fault is told of it.
-use Rattle.std.specs.Prelude.{◌≡◌, ◌&&◌, ◌||◌, ◌%◌, ◌==◌, ℕ, suc, ℤ, pos, negsuc, Bool, true, cond, List, [], ◌∷◌, length, Option, Some, None, is_some, Result, Ok, Err, nat_le, nat_lt}
+use Rattle.std.specs.Prelude.{◌&&◌, ◌||◌, ◌%◌, ◌==◌, ℕ, suc, pos, negsuc, Bool, true, cond, List, [], ◌∷◌, length, Option, Some, None, is_some, Result, Ok, Err, nat_lt}
 use Rattle.std.specs.Option.{ok_or}
 use Rattle.std.specs.Str.{bytes_eq}
 use Rattle.std.specs.List.{list_any}

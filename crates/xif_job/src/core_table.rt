@@ -54,7 +54,14 @@ pub(crate) fn read_core(alloc: Global, top: &Table, id_width: u8) -> Result<Core
     let budget = number(Field::CoreBudget, 1, 200_000, Some(10_000), found)?;
     let name = read_predictor(find(table, "predictor"))?;
     let bits = number_u8(Field::CoreBits, 1, 12, Some(8), find(table, "bits"))?;
-    let targets = numbers(alloc, Field::CoreTargets, 1, 64, u32::MAX, find(table, "targets"))?;
+    let targets = numbers(
+        alloc,
+        Field::CoreTargets,
+        1,
+        64,
+        u32::MAX,
+        find(table, "targets"),
+    )?;
     let predictor = kind_named(name, bits, Addresses::of(targets));
     Ok(Core {
         window,

@@ -60,11 +60,7 @@ pub(crate) fn read_image(
     Ok(Image { source, entry })
 }
 
-fn read_file(
-    alloc: Global,
-    needs_image: bool,
-    value: Option<&Value>,
-) -> Result<Name, JobFault>
+fn read_file(alloc: Global, needs_image: bool, value: Option<&Value>) -> Result<Name, JobFault>
     ensures { Gives (λ n. n) result (image_file_of needs_image (option_map (λ v. view v.now) value.entry)) }
 {
     if needs_image {

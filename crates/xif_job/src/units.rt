@@ -111,7 +111,8 @@ fn add_unit(set: &mut Set, accumulators: u8, entries: &[Entry]) -> Result<(), No
 {
     set.unit(accumulators)?;
     for i in 0..entries.len() {
-        set.entry(entries[i])?;
+        let entry = entries[i];
+        set.entry(entry)?;
     }
     Ok(())
 }
