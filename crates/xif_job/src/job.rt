@@ -1,6 +1,8 @@
 // A job: what one run of the simulator is to do.
-ghost use Rattle.std.specs.Prelude.{◌≡◌};
+ghost use Rattle.std.specs.Prelude.{◌≡◌, IfOk};
 ghost use Rattle.std.specs.Str.{bytes_eq};
+ghost use Rattle.coproc_config.specs.Check.{IsLawful};
+ghost use Rattle.xif_base.specs.Params.{IsInRange};
 ghost use Rattle.toml.specs.View.{table_view};
 ghost use Rattle.xif_job.specs.FieldTable.{job_of, differ, is_unbuilt, all_of, read_of};
 ghost use Rattle.xif_job.specs.Outcome.{Gives};
@@ -47,7 +49,9 @@ impl Job {
     /// What the bytes of a job file say, or the first fault in the order of the fields. `needs_image`
     /// says whether the job must name the file of an image.
     pub fn read(alloc: Global, bytes: &[u8], needs_image: bool) -> Result<Job, JobFault>
-        ensures { Gives (λ job. job) result (read_of needs_image bytes.now) }
+        ensures exact { Gives (λ job. job) result (read_of needs_image bytes.now) }
+        ensures in_range { IfOk result (λ job. IsInRange job.params) }
+        ensures lawful { IfOk result (λ job. IsLawful job.set) }
     {
         match document(alloc, bytes) {
             Err(fault) => Err(fault),
@@ -58,7 +62,9 @@ impl Job {
 
 /// The tables at the top level.
 fn read_all(alloc: Global, top: &Table, needs_image: bool) -> Result<Job, JobFault>
-    ensures { Gives (λ job. job) result (all_of needs_image (table_view top.now)) }
+    ensures exact { Gives (λ job. job) result (all_of needs_image (table_view top.now)) }
+    ensures in_range { IfOk result (λ job. IsInRange job.params) }
+    ensures lawful { IfOk result (λ job. IsLawful job.set) }
 {
     if has_unbuilt(top) {
         return Err(JobFault::Unbuilt);
@@ -80,7 +86,9 @@ fn has_unbuilt(top: &Table) -> bool
 
 #[tactic(auto, unfolding(crate::specs::FieldTable::job_of))]
 fn read_job(alloc: Global, top: &Table, needs_image: bool) -> Result<Job, JobFault>
-    ensures { Gives (λ job. job) result (job_of needs_image (table_view top.now)) }
+    ensures exact { Gives (λ job. job) result (job_of needs_image (table_view top.now)) }
+    ensures in_range { IfOk result (λ job. IsInRange job.params) }
+    ensures lawful { IfOk result (λ job. IsLawful job.set) }
 {
     let params = read_params(top)?;
     let memory = read_memory(top)?;

@@ -1,6 +1,6 @@
 // The coprocessor units of a job.
 ghost use Rattle.std.specs.Prelude.{◌≡◌, ◌++◌, ◌∷◌, [], Ok, IfOk, option_map};
-ghost use Rattle.coproc_config.specs.Check.{checks};
+ghost use Rattle.coproc_config.specs.Check.{checks, IsLawful};
 ghost use Rattle.toml.specs.View.{table_view, items_view, view};
 ghost use Rattle.xif_base.specs.Checks.{first_fault};
 ghost use Rattle.xif_job.specs.FieldTable.{units_of, unit_in, entry_in, operation_of, lawful};
@@ -119,7 +119,8 @@ fn add_unit(set: &mut Set, accumulators: u8, entries: &[Entry]) -> Result<(), No
 
 /// A set is lawful, or its first fault is told.
 pub(crate) fn check_set(set: &Set) -> Result<(), JobFault>
-    ensures { result ≡ lawful (first_fault (checks set.now)) }
+    ensures exact { result ≡ lawful (first_fault (checks set.now)) }
+    ensures lawful { IfOk result (λ _. IsLawful set.now) }
 {
     match set.check() {
         Ok(()) => Ok(()),
