@@ -1,0 +1,6 @@
+pub mod Field
+pub mod Outcome
+pub mod Readers
+pub mod Tables
+pub mod Document
+pub mod FieldTable

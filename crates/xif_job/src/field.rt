@@ -1,0 +1,153 @@
+// The fields of a job file, and what is wrong with one.
+ghost use Rattle.std.specs.Prelude.{◌≡◌};
+ghost use Rattle.xif_job.specs.Field.{dotted, param_field};
+
+use coproc_config::SetFault;
+use std::alloc::{AllocError, AllocFailed};
+use xif_base::{NoMemory, ParamFault};
+
+/// A field of a job file. An array of tables is a field too.
+#[derive(Clone, Copy, Debug, PartialEq, Eq)]
+pub enum Field {
+    ParamsNumRs,
+    ParamsIdWidth,
+    ParamsRfrWidth,
+    ParamsRfwWidth,
+    ParamsNumHarts,
+    ParamsHartidWidth,
+    ParamsDualRead,
+    ParamsDualWrite,
+    ParamsIssueRegisterSplit,
+    MemoryBase,
+    MemorySize,
+    ImageFile,
+    ImageKind,
+    ImageLoad,
+    ImageEntry,
+    CoreWindow,
+    CoreBudget,
+    CorePredictor,
+    CoreBits,
+    CoreTargets,
+    Unit,
+    UnitAccumulators,
+    UnitEntry,
+    UnitEntryMask,
+    UnitEntryMatch,
+    UnitEntryOp,
+    UnitEntryAcc,
+    UnitEntryLow,
+    UnitEntryLen,
+    TraceVcd,
+    TraceLog,
+}
+
+/// What is wrong with a job file.
+#[derive(Clone, Copy, Debug, PartialEq, Eq)]
+pub enum JobFault {
+    /// The bytes are no TOML, which is text in UTF-8.
+    NotToml,
+    /// A field that is needed is absent.
+    MissingField(Field),
+    /// A field is of another kind of value. A table of another kind is told at its first field.
+    WrongKind(Field),
+    /// A field has a value of its kind that it can't have.
+    OutOfRange(Field),
+    /// A name at the top level or in a table is none that may stand there.
+    UnknownField,
+    /// The units, all of whose fields are in their ranges, are no lawful set.
+    Set(SetFault),
+    /// There was no memory left.
+    NoMemory,
+    /// The job has a table that is not read yet: `script`, `trace` or `map`.
+    Unbuilt,
+}
+
+impl From<AllocError> for JobFault {
+    ghost use Rattle.std.specs.Prelude.{◌≡◌};
+    ghost use Rattle.xif_job.specs.declared.field.JobFault.TheVariants.{NoMemory};
+
+    ghost from_gives = { λ _ e. e ≡ NoMemory };
+
+    fn from(_: AllocError) -> Self {
+        JobFault::NoMemory
+    }
+}
+
+impl<T: Drop> From<AllocFailed<T>> for JobFault {
+    ghost use Rattle.std.specs.Prelude.{◌≡◌};
+    ghost use Rattle.xif_job.specs.declared.field.JobFault.TheVariants.{NoMemory};
+
+    ghost from_gives = { λ _ e. e ≡ NoMemory };
+
+    fn from(_: AllocFailed<T>) -> Self {
+        JobFault::NoMemory
+    }
+}
+
+impl From<NoMemory> for JobFault {
+    ghost use Rattle.std.specs.Prelude.{◌≡◌};
+    ghost use Rattle.xif_job.specs.declared.field.JobFault.TheVariants.{NoMemory};
+
+    ghost from_gives = { λ _ e. e ≡ NoMemory };
+
+    fn from(_: NoMemory) -> Self {
+        JobFault::NoMemory
+    }
+}
+
+impl Field {
+    /// The name with a dot, as `memory.base`.
+    pub fn name(&self) -> &'static str
+        ensures { result.now ≡ dotted self.now }
+    {
+        match self {
+            Field::ParamsNumRs => "params.x_num_rs",
+            Field::ParamsIdWidth => "params.x_id_width",
+            Field::ParamsRfrWidth => "params.x_rfr_width",
+            Field::ParamsRfwWidth => "params.x_rfw_width",
+            Field::ParamsNumHarts => "params.x_num_harts",
+            Field::ParamsHartidWidth => "params.x_hartid_width",
+            Field::ParamsDualRead => "params.x_dualread",
+            Field::ParamsDualWrite => "params.x_dualwrite",
+            Field::ParamsIssueRegisterSplit => "params.x_issue_register_split",
+            Field::MemoryBase => "memory.base",
+            Field::MemorySize => "memory.size",
+            Field::ImageFile => "image.file",
+            Field::ImageKind => "image.kind",
+            Field::ImageLoad => "image.load",
+            Field::ImageEntry => "image.entry",
+            Field::CoreWindow => "core.window",
+            Field::CoreBudget => "core.budget",
+            Field::CorePredictor => "core.predictor",
+            Field::CoreBits => "core.bits",
+            Field::CoreTargets => "core.targets",
+            Field::Unit => "unit",
+            Field::UnitAccumulators => "unit.accumulators",
+            Field::UnitEntry => "unit.entry",
+            Field::UnitEntryMask => "unit.entry.mask",
+            Field::UnitEntryMatch => "unit.entry.match",
+            Field::UnitEntryOp => "unit.entry.op",
+            Field::UnitEntryAcc => "unit.entry.acc",
+            Field::UnitEntryLow => "unit.entry.low",
+            Field::UnitEntryLen => "unit.entry.len",
+            Field::TraceVcd => "trace.vcd",
+            Field::TraceLog => "trace.log",
+        }
+    }
+}
+
+/// The field of a parameter that is out of its range.
+pub(crate) fn field_of(fault: ParamFault) -> Field
+    ensures { result ≡ param_field fault }
+{
+    match fault {
+        ParamFault::NumRs => Field::ParamsNumRs,
+        ParamFault::IdWidth => Field::ParamsIdWidth,
+        ParamFault::RfrWidth => Field::ParamsRfrWidth,
+        ParamFault::RfwWidth => Field::ParamsRfwWidth,
+        ParamFault::NumHarts => Field::ParamsNumHarts,
+        ParamFault::HartidWidth => Field::ParamsHartidWidth,
+        ParamFault::DualRead => Field::ParamsDualRead,
+    }
+}

@@ -1,0 +1,72 @@
+// The parameters of a job.
+ghost use Rattle.std.specs.Prelude.{◌≡◌, IfOk, Ok};
+ghost use Rattle.toml.specs.View.{table_view};
+ghost use Rattle.xif_base.specs.Checks.{first_fault};
+ghost use Rattle.xif_base.specs.Params.{ranges, IsInRange};
+ghost use Rattle.xif_job.specs.FieldTable.{params_of, checked};
+ghost use Rattle.xif_job.specs.Outcome.{Gives};
+
+use crate::field::field_of;
+use crate::readers::{find, flag, number_u8, port_width, table};
+use crate::{Field, JobFault};
+use toml::Table;
+use xif_base::Params;
+
+/// The names in the table `params`.
+const NAMES: [&str; 9] = [
+    "x_num_rs",
+    "x_id_width",
+    "x_rfr_width",
+    "x_rfw_width",
+    "x_num_harts",
+    "x_hartid_width",
+    "x_dualread",
+    "x_dualwrite",
+    "x_issue_register_split",
+];
+
+/// The table `params`.
+#[tactic(auto, unfolding(crate::specs::FieldTable::params_of))]
+pub(crate) fn read_params(top: &Table) -> Result<Params, JobFault>
+    ensures value { Gives (λ p. p) result (params_of (table_view top.now)) }
+    ensures in_range { IfOk result IsInRange }
+{
+    let table = table(Field::ParamsNumRs, &NAMES, find(Some(top), "params"))?;
+    let found = find(table, "x_num_rs");
+    let num_rs = number_u8(Field::ParamsNumRs, 2, 3, Some(2), found)?;
+    let found = find(table, "x_id_width");
+    let id_width = number_u8(Field::ParamsIdWidth, 3, 12, Some(3), found)?;
+    let rfr_width = port_width(Field::ParamsRfrWidth, find(table, "x_rfr_width"))?;
+    let rfw_width = port_width(Field::ParamsRfwWidth, find(table, "x_rfw_width"))?;
+    let found = find(table, "x_num_harts");
+    let num_harts = number_u8(Field::ParamsNumHarts, 1, 4, Some(1), found)?;
+    let found = find(table, "x_hartid_width");
+    let hartid_width = number_u8(Field::ParamsHartidWidth, 1, 8, Some(1), found)?;
+    let found = find(table, "x_dualread");
+    let dual_read = number_u8(Field::ParamsDualRead, 0, 3, Some(0), found)?;
+    let dual_write = flag(Field::ParamsDualWrite, false, find(table, "x_dualwrite"))?;
+    let found = find(table, "x_issue_register_split");
+    let split = flag(Field::ParamsIssueRegisterSplit, true, found)?;
+    check(Params {
+        num_rs,
+        id_width,
+        rfr_width,
+        rfw_width,
+        num_harts,
+        hartid_width,
+        dual_read,
+        dual_write,
+        split,
+    })
+}
+
+/// Parameters that are in their ranges together.
+fn check(params: Params) -> Result<Params, JobFault>
+    ensures value { result ≡ checked params (first_fault (ranges params)) }
+    ensures in_range { IfOk result IsInRange }
+{
+    match params.check() {
+        Ok(()) => Ok(params),
+        Err(fault) => Err(JobFault::OutOfRange(field_of(fault))),
+    }
+}
