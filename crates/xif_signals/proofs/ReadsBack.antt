@@ -1,11 +1,10 @@
 -- A sample of a bus reads as that bus.
-use Rattle.std.proofs.Common.{◌≡◌, ◌+◌, ◌≢◌, ◌<◌, ◌≤◌, ◌==◌, ◌&&◌, ◌-◌, ◌/◌, ◌%◌, ◌^◌, ℕ, Bool, true, false, cond, not, bit_and, List, [], ◌∷◌, Option, Some, None, Ok, refl, ◌∙◌, ap, arith}
+use Rattle.std.proofs.Common.{◌≡◌, ◌+◌, ◌<◌, ◌≤◌, ◌==◌, ◌&&◌, ◌/◌, ◌%◌, ◌^◌, ℕ, Bool, true, false, cond, not, [], ◌∷◌, None, Ok, refl, ◌∙◌, ap, arith}
 use Rattle.std.proofs.Math.Nat.{mod-eq_of_lt, zero-mod, pow-le-pow_right}
 use Rattle.std.proofs.lemmas.Nat.{and_mask}
 use Rattle.xif_base.specs.declared.params.Params.{Params}
 use Rattle.xif_base.specs.Params.{IsInRange, IsPortWidth}
 use Rattle.xif_signals.specs.declared.bus.Bus.{Bus}
-use Rattle.xif_signals.specs.declared.sample.Quad.{Quad}
 use Rattle.xif_base.specs.Flags.{even_bit, odd_bit}
 use Rattle.std.specs.Option.{option_map_or}
 use Rattle.xif_signals.specs.declared.rule.Rule.TheVariants.{K1, K2}
@@ -16,7 +15,7 @@ use Rattle.xif_signals.specs.declared.signal.Signal.TheVariants.{Clk, RstN, Issu
 use Rattle.xif_signals.specs.Signal.{width_of}
 use Rattle.xif_signals.specs.Quad.{known_quad, reading_of, value_of, is_one, unknown_of}
 use Rattle.xif_signals.specs.Bus.{bit, sample_of, bus_of, FitsWidths}
-use Rattle.xif_signals.specs.Known.{when, has_flag, is_known, are_halves_known, is_handshake_known, is_issue_known, is_lane_known, is_register_known, is_commit_known, is_result_known, rule_K1, rule_K2, first_unknown, known_by, known_of}
+use Rattle.xif_signals.specs.Known.{when, has_flag, is_known, are_halves_known, is_issue_known, is_lane_known, is_register_known, is_commit_known, is_result_known, rule_K1, rule_K2, first_unknown, known_by, known_of}
 
 -- a number that fits reads as it is
 pub reading : (n w : ℕ) → w ≤ 64 → n < 2 ^ w → reading_of (known_quad n) % 2 ^ w ≡ n

@@ -1,5 +1,5 @@
 -- Who drives which signal, and a bus as a sample.
-use Rattle.std.specs.Prelude.{◌<◌, ◌==◌, ◌^◌, ℕ, Bool, cond, List, [], ◌∷◌, map}
+use Rattle.std.specs.Prelude.{◌<◌, ◌^◌, ℕ, Bool, cond, List, [], ◌∷◌, map}
 use Rattle.xif_base.specs.declared.params.Params.{Params}
 use Rattle.xif_signals.specs.declared.bus.CpuOut.{CpuOut}
 use Rattle.xif_signals.specs.declared.bus.CopOut.{CopOut}

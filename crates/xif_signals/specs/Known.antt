@@ -1,5 +1,5 @@
 -- Which bits of a sample have to be known, channel by channel, and the bus that it is where they are.
-use Rattle.std.specs.Prelude.{◌==◌, ◌&&◌, ◌/◌, ◌%◌, ◌^◌, ℕ, Bool, true, false, not, cond, List, [], ◌∷◌, Option, Some, None, Result, Ok, Err, nat_lt}
+use Rattle.std.specs.Prelude.{◌==◌, ◌&&◌, ◌/◌, ◌%◌, ◌^◌, ℕ, Bool, true, false, not, cond, List, [], ◌∷◌, Option, Some, None, Result, Ok, Err}
 use Rattle.std.specs.Int.{bit_at}
 use Rattle.std.specs.Option.{option_map_or}
 use Rattle.xif_base.specs.declared.params.Params.{Params}
@@ -34,7 +34,8 @@ are_halves_known qs p s even odd =
 
 -- valid is known, and ready where valid is 1 (CV-X-IF 1.0.0, "Handshake rules")
 abbrev pub is_handshake_known : List Quad → Params → Signal → Signal → Bool
-is_handshake_known qs p valid ready = is_known qs p valid && when (is_one qs p valid) (is_known qs p ready)
+is_handshake_known qs p valid ready =
+    is_known qs p valid && when (is_one qs p valid) (is_known qs p ready)
 
 -- the request where issue_valid is 1, the response at the handshake, register_read where it accepts
 -- (CV-X-IF 1.0.0, "Issue interface")
@@ -71,9 +72,10 @@ is_result_known qs p = when (is_one qs p ResultValid) (
     is_known qs p ResultHartid && is_known qs p ResultId && is_known qs p ResultWe
     && when (not (value_of qs p ResultWe == 0)) (
     is_known qs p ResultRd
-    && are_halves_known qs p ResultData (has_flag (value_of qs p ResultWe) 0) (has_flag (value_of qs p ResultWe) 1)))
+    && are_halves_known qs p ResultData
+    (has_flag (value_of qs p ResultWe) 0) (has_flag (value_of qs p ResultWe) 1)))
 
--- K1: what each channel asks, in the order of the channels
+-- K1: the valids, and the ready under a valid. A test for each channel, in their order.
 abbrev pub rule_K1 : List Quad → Params → List (Bool × Channel)
 rule_K1 qs p =
     (is_handshake_known qs p IssueValid IssueReady, Issue)
@@ -82,7 +84,7 @@ rule_K1 qs p =
     ∷ (is_handshake_known qs p ResultValid ResultReady, ResultChannel)
     ∷ []
 
--- K2: the same
+-- K2: what a valid stands for. The same.
 abbrev pub rule_K2 : List Quad → Params → List (Bool × Channel)
 rule_K2 qs p =
     (is_issue_known qs p, Issue)

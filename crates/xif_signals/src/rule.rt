@@ -3,11 +3,11 @@
 /// A rule of a session. They are judged in this order.
 #[derive(Clone, Copy, Debug, PartialEq, Eq)]
 pub enum Rule {
-    /// Valids are known, and the ready under a valid.
+    /// Each valid is known, and the ready under a valid.
     K1,
     /// What a valid stands for is known.
     K2,
-    /// Ids of harts are those of harts.
+    /// Each hartid under a valid is below X_NUM_HARTS.
     H1,
     /// An instruction that is offered doesn't change.
     I1,
@@ -58,7 +58,7 @@ pub enum Channel {
     Result,
 }
 
-/// A rule that bits break which aren't known, K1 or K2, and the first channel where they do.
+/// Which of K1 and K2 fails for a bit that isn't known, and the first channel where it does.
 #[derive(Clone, Copy, Debug, PartialEq, Eq)]
 pub struct Unknown {
     pub rule: Rule,

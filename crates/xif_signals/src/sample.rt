@@ -10,8 +10,8 @@ use crate::signal::Signal;
 use std::marker::Model;
 use xif_base::Params;
 
-/// The bits of a signal. One that is set in `unknown` is x or z; its bit of `value` is 0, and reads as
-/// 0 whatever stands there.
+/// The bits of a signal. A bit that is set in `unknown` is x or z. Its bit of `value` is to be 0, and
+/// `Sample::known` reads it as 0 whatever it is.
 #[derive(Clone, Copy, Debug, PartialEq, Eq)]
 pub struct Quad {
     pub value: u64,
@@ -19,12 +19,13 @@ pub struct Quad {
 }
 
 /// The signals of one cycle, but for the clock.
+///
+/// It is seen as the list of their bits in the order of the table.
 #[derive(Clone, Debug, Drop)]
 pub struct Sample {
     quads: [Quad; 28],
 }
 
-/// The signals in the order of the table.
 impl Model for Sample {
     ghost use Rattle.std.specs.Prelude.{List};
     ghost use Rattle.xif_signals.specs.declared.sample.Quad.{Quad};
@@ -60,6 +61,7 @@ impl Sample {
         }
     }
 
+    /// The bits of a signal other than the clock.
     pub fn get(&self, signal: Signal) -> Quad
         requires { signal ≢ Clk }
         ensures { result ≡ quad_of self.now signal }
@@ -67,6 +69,7 @@ impl Sample {
         self.quads[usize::from(signal.number()) - 1]
     }
 
+    /// Gives a signal other than the clock these bits.
     pub fn set(&mut self, signal: Signal, quad: Quad)
         requires { signal ≢ Clk }
         ensures set { self.new ≡ slice_set self.old (place_of signal) quad }

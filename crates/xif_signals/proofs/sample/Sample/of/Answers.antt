@@ -1,4 +1,4 @@
-use Rattle.std.proofs.Common.{◌≡◌, length, map, sym, ◌∙◌, ap, arith, length-set}
+use Rattle.std.proofs.Common.{map, sym, ◌∙◌, ap, arith, length-set}
 use Rattle.std.proofs.lemmas.List.{take_all}
 use Rattle.xif_signals.specs.Quad.{known_quad}
 use Rattle.xif_signals.proofs.Lists.{map_more_set}
