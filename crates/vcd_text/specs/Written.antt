@@ -1,14 +1,15 @@
 -- The text of a list of buses (IEEE 1364-2005, clause 18): a header, and the changes of each cycle. And
 -- what it says: its variables, and its times and changes.
-use Rattle.std.specs.Prelude.{ℕ, ◌+◌, ◌*◌, ◌==◌, Bool, false, cond, nat_lt, List, [], ◌∷◌, ◌++◌, map, filter, drop, slice_index_or, Option, Some, None, codes}
+use Rattle.std.specs.Prelude.{ℕ, ◌+◌, ◌*◌, ◌==◌, Bool, false, cond, nat_lt, List, [], ◌∷◌, ◌++◌, map, filter, drop, Option, Some, None, codes}
 use Rattle.std.specs.List.{flat_map}
 use Rattle.std.specs.Int.Digits.{digits_of}
 use Rattle.xif_base.specs.declared.params.Params.{Params}
 use Rattle.xif_signals.specs.declared.signal.Signal.{Signal}
 use Rattle.xif_signals.specs.declared.bus.Bus.{Bus}
+use Rattle.xif_signals.specs.declared.sample.Quad.{Quad}
 use Rattle.xif_signals.specs.Signal.{signals, code_of, name_of, width_of}
-use Rattle.xif_signals.specs.Quad.{place_of}
-use Rattle.xif_signals.specs.Bus.{values_of}
+use Rattle.xif_signals.specs.Quad.{quad_of}
+use Rattle.xif_signals.specs.Bus.{sample_of}
 use Rattle.vcd_text.specs.declared.digit.Digit.{Digit}
 use Rattle.vcd_text.specs.declared.digit.Digit.TheVariants.{Zero, One}
 use Rattle.vcd_text.specs.declared.declaration.Variable.{Variable}
@@ -48,25 +49,28 @@ clock_line value = last ((48 + value) ∷ 33 ∷ [])
 
 -- ---- the text
 
--- the signals that the parameters don't leave out
-abbrev pub wires_of : Params → List Signal
-wires_of p = filter (λ s. nat_lt 0 (width_of s p)) signals
+-- the signals of a list that the parameters don't leave out
+abbrev pub wires : Params → List Signal → List Signal
+wires p ss = filter (λ s. nat_lt 0 (width_of s p)) ss
 
--- the same without the clock
-abbrev pub data_wires_of : Params → List Signal
-data_wires_of p = drop 1 (wires_of p)
+unfoldable pub wires_of : Params → List Signal
+wires_of p = wires p signals
 
--- the value of a signal other than the clock
-abbrev pub value_in : Bus → Signal → ℕ
-value_in b s = slice_index_or (values_of b) (place_of s) 0
+-- those but for the clock
+unfoldable pub data_wires_of : Params → List Signal
+data_wires_of p = wires p (drop 1 signals)
+
+-- the value of a signal other than the clock in a sample
+abbrev pub value_in : List Quad → Signal → ℕ
+value_in q s = (quad_of q s).value
 
 -- a signal has the value that it had in the last cycle, of which there is none before the first
-abbrev pub is_same : Option Bus → Bus → Signal → Bool
+abbrev pub is_same : Option (List Quad) → List Quad → Signal → Bool
 is_same None b s = false
 is_same (Some a) b s = value_in a s == value_in b s
 
 -- the line of a signal, where its value changed
-abbrev pub changed_line : Params → Option Bus → Bus → Signal → List ℕ
+abbrev pub changed_line : Params → Option (List Quad) → List Quad → Signal → List ℕ
 changed_line p a b s = cond (is_same a b s) [] (change_line (width_of s p) (code_of s) (value_in b s))
 
 abbrev pub header_text : Params → List ℕ
@@ -74,8 +78,8 @@ header_text p =
     codes "$timescale 1 ns $end\n" ++ (codes "$scope module xif $end\n" ++ (flat_map (var_line p) (wires_of p)
     ++ (codes "$upscope $end\n" ++ codes "$enddefinitions $end\n")))
 
--- cycle c, in which the bus is b, behind a bus a: its changes stand at time 10c, and the clock rises at 10c + 5
-abbrev pub cycle_text : Params → ℕ → Option Bus → Bus → List ℕ
+-- cycle c with its sample, behind a cycle with sample a: its changes stand at time 10c, and the clock rises at 10c + 5
+abbrev pub cycle_text : Params → ℕ → Option (List Quad) → List Quad → List ℕ
 cycle_text p c a b =
     time_line (10 * c) ++ (clock_line 0 ++ (flat_map (changed_line p a b) (data_wires_of p)
     ++ (time_line (10 * c + 5) ++ clock_line 1)))
@@ -84,10 +88,10 @@ cycle_text p c a b =
 abbrev pub end_text : ℕ → List ℕ
 end_text c = time_line (10 * c) ++ clock_line 0
 
--- the cycles from cycle c on, behind a bus a, and the end
-abbrev pub cycles_text : Params → ℕ → Option Bus → List Bus → List ℕ
+-- the cycles from cycle c on, behind a cycle with sample a, and the end
+abbrev pub cycles_text : Params → ℕ → Option (List Quad) → List Bus → List ℕ
 cycles_text p c a [] = end_text c
-cycles_text p c a (b ∷ bs) = cycle_text p c a b ++ cycles_text p (c + 1) (Some b) bs
+cycles_text p c a (b ∷ bs) = cycle_text p c a (sample_of b) ++ cycles_text p (c + 1) (Some (sample_of b)) bs
 
 -- the text of a list of buses, the first cycle first
 abbrev pub vcd_text_of : Params → List Bus → List ℕ
@@ -112,18 +116,18 @@ abbrev pub bits : ℕ → List Digit
 bits n = cond (n == 0) (Zero ∷ []) (map bit_digit (digits_of 2 n))
 
 -- the changes of signals, the first of which has this place among the codes
-abbrev pub change_items : Option Bus → Bus → ℕ → List Signal → List Item
+abbrev pub change_items : Option (List Quad) → List Quad → ℕ → List Signal → List Item
 change_items a b k [] = []
 change_items a b k (s ∷ ss) = cond (is_same a b s) [] (Change k (bits (value_in b s)) ∷ []) ++ change_items a b (k + 1) ss
 
-abbrev pub cycle_items : Params → ℕ → Option Bus → Bus → List Item
+abbrev pub cycle_items : Params → ℕ → Option (List Quad) → List Quad → List Item
 cycle_items p c a b =
     Time (10 * c) ∷ Change 0 (bits 0) ∷ (change_items a b 1 (data_wires_of p)
     ++ (Time (10 * c + 5) ∷ Change 0 (bits 1) ∷ []))
 
-abbrev pub cycles_items : Params → ℕ → Option Bus → List Bus → List Item
+abbrev pub cycles_items : Params → ℕ → Option (List Quad) → List Bus → List Item
 cycles_items p c a [] = Time (10 * c) ∷ Change 0 (bits 0) ∷ []
-cycles_items p c a (b ∷ bs) = cycle_items p c a b ++ cycles_items p (c + 1) (Some b) bs
+cycles_items p c a (b ∷ bs) = cycle_items p c a (sample_of b) ++ cycles_items p (c + 1) (Some (sample_of b)) bs
 
 abbrev pub written_items : Params → List Bus → List Item
 written_items p buses = cycles_items p 0 None buses

@@ -8,8 +8,11 @@ mod declaration;
 mod digit;
 mod fault;
 mod item;
+mod lines;
+mod writer;
 
 pub use declaration::{Declarations, Variable};
 pub use digit::{Digit, Digits};
 pub use fault::{FeedFail, VcdCause, VcdFault};
 pub use item::Item;
+pub use writer::Writer;
