@@ -4,10 +4,15 @@
 //! that it declares; a writer gives the text of a list of buses.
 #![tactic(auto)]
 
+mod codes;
 mod declaration;
 mod digit;
 mod fault;
 mod item;
+mod keyword;
+mod scopes;
+mod state;
+mod word;
 
 pub use declaration::{Declarations, Variable};
 pub use digit::{Digit, Digits};
