@@ -1,2 +1,8 @@
+pub mod Words
+pub mod Tokens
+pub mod Codes
+pub mod Grammar
+pub mod Reading
+pub mod Sizes
 pub mod Written
 pub mod Writing

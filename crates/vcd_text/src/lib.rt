@@ -4,11 +4,16 @@
 //! that it declares; a writer gives the text of a list of buses.
 #![tactic(auto)]
 
+mod codes;
 mod declaration;
 mod digit;
 mod fault;
 mod item;
+mod keyword;
 mod lines;
+mod scopes;
+mod state;
+mod word;
 mod writer;
 
 pub use declaration::{Declarations, Variable};
