@@ -1,1 +1,3 @@
+pub mod CodeTable
+pub mod Front
 pub mod Texts

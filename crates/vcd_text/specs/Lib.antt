@@ -4,3 +4,4 @@ pub mod Codes
 pub mod Grammar
 pub mod Reading
 pub mod Sizes
+pub mod Steps

@@ -6,12 +6,16 @@
 
 mod codes;
 mod declaration;
+mod declare;
 mod digit;
 mod fault;
 mod item;
 mod keyword;
 mod scopes;
 mod state;
+mod step;
+mod stop;
+mod token;
 mod word;
 
 pub use declaration::{Declarations, Variable};
