@@ -1,3 +1,5 @@
+pub mod CodeTable
+pub mod Front
 pub mod Texts
 pub mod Pieces
 pub mod Fitting

@@ -10,4 +10,4 @@ pub record Code : Type 0 where
 -- the number of a code, its place from a number on, and its size
 abbrev pub code_from : ℕ → List ℕ → List Code → Option (ℕ × ℕ)
 code_from n text [] = None
-code_from n text (c ∷ cs) = cond (bytes_eq c.text text) (Some (n, c.size)) (code_from (n + 1) text cs)
+code_from n text (c ∷ cs) = cond (bytes_eq text c.text) (Some (n, c.size)) (code_from (n + 1) text cs)

@@ -4,5 +4,6 @@ pub mod Codes
 pub mod Grammar
 pub mod Reading
 pub mod Sizes
+pub mod Steps
 pub mod Written
 pub mod Writing

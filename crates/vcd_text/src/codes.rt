@@ -38,20 +38,28 @@ impl Codes {
     pub fn find(&self, text: &[u8]) -> Option<(u32, u32)>
         ensures { result ≡ code_from 0 text.now self.now }
     {
-        let (number, _, size) = self.sizes.get_full(text)?;
-        Some((number as u32, *size))
+        match self.sizes.get_full(text) {
+            Some((number, _, size)) => Some((number as u32, *size)),
+            None => None,
+        }
     }
 
-    /// Adds a code, and answers its number.
-    pub fn push(&mut self, alloc: Global, text: &[u8], size: u32) -> Result<u32, NoMemory>
+    /// The number that a new code has.
+    pub fn next(&self) -> u32
+        requires { length self.now < 2 ^ 32 }
+        ensures { result ≡ length self.now }
+    {
+        self.sizes.len() as u32
+    }
+
+    /// Adds a code.
+    pub fn push(&mut self, alloc: Global, text: &[u8], size: u32) -> Result<(), NoMemory>
         requires room { length self.old < 2 ^ 32 }
         requires new { code_from 0 text.now self.old ≡ None }
-        ensures number { OnOk result (result ≡ Ok (length self.old)) }
         ensures ok { OnOk result (self.new ≡ self.old ++ record { text = text.now; size = size } ∷ []) }
         ensures err { OnErr result (self.new ≡ self.old) }
     {
-        let number = self.sizes.len() as u32;
         self.sizes.insert(Vec::from_slice(alloc, text)?, size)?;
-        Ok(number)
+        Ok(())
     }
 }

@@ -6,6 +6,7 @@
 
 mod codes;
 mod declaration;
+mod declare;
 mod digit;
 mod fault;
 mod item;
@@ -13,6 +14,9 @@ mod keyword;
 mod lines;
 mod scopes;
 mod state;
+mod step;
+mod stop;
+mod token;
 mod word;
 mod writer;
 
