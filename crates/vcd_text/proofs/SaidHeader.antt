@@ -22,7 +22,7 @@ use Rattle.vcd_text.specs.Written.{numeral, word, last, var_line, header_text, w
 use Rattle.vcd_text.proofs.Says.{Says, says-then, says-to, says-word, says-nothing, IsWord}
 use Rattle.vcd_text.proofs.Numerals.{numeral_word, number_numeral, some_digits}
 use Rattle.vcd_text.proofs.SaidLines.{in_body}
-use Rattle.vcd_text.proofs.Table.{IsPlain, IsDeclarable, is_declarable_lem, codes_same, width_fits, Rise}
+use Rattle.vcd_text.proofs.Table.{utf8, IsPlain, IsDeclarable, is_declarable_lem, codes_same, width_fits, Rise}
 
 abbrev scope_name : List ℕ
 scope_name = codes "xif"
@@ -48,7 +48,7 @@ says-timescale : (at : ℕ) → Says at (declaring [] [] []) (codes "$timescale 
 says-timescale at = record { whole = refl; read = refl }
 
 says-scope : (at : ℕ) → Says at (declaring [] [] []) (codes "$scope module xif $end\n") (inside [] []) []
-says-scope at = record { whole = refl; read = refl }
+says-scope at = let e : is_utf8 scope_name ≡ true = utf8 scope_name refl in record { whole = refl; read = rw e refl }
 
 says-upscope : (at : ℕ) (cs : List Code) (vs : List Variable) → Says at (inside cs vs) (codes "$upscope $end\n") (declaring [] cs vs) []
 says-upscope at cs vs = record { whole = refl; read = refl }
@@ -138,19 +138,31 @@ says-var p at cs vs k sig h l e =
 abbrev Fresh : ℕ → List Code → Type 0
 Fresh n cs = (s : Signal) → n ≤ number_of s → code_from 0 (code_of s) cs ≡ None
 
-push_by : (n : ℕ) (text : List ℕ) (c d : Code) (cs : List Code) (x : Bool) → bytes_eq text c.text ≡ x → (code_from (n + 1) text cs ≡ None → code_from (n + 1) text (cs ++ d ∷ []) ≡ None) → code_from n text (c ∷ cs) ≡ None → code_from n text (c ∷ (cs ++ d ∷ [])) ≡ None
-push_by n text c d cs true g h e = absurd (let f = rw g at e in cc)
-push_by n text c d cs false g h e = rw g (h (rw g at e))
+-- what is found where the first code is another
+other_code : (n : ℕ) (text : List ℕ) (c : Code) (cs : List Code) → bytes_eq text c.text ≡ false → code_from n text (c ∷ cs) ≡ code_from (n + 1) text cs
+other_code n text c cs g = ap (λ x. cond x (Some (n, c.size)) (code_from (n + 1) text cs)) g
 
-code_push : (n : ℕ) (text : List ℕ) (cs : List Code) (d : Code) → bytes_eq text d.text ≡ false → code_from n text cs ≡ None → code_from n text (cs ++ d ∷ []) ≡ None
-code_push n text [] d g e = rw g refl
-code_push n text (c ∷ cs) d g e = push_by n text c d cs (bytes_eq text c.text) refl (code_push (n + 1) text cs d g) e
+this_code : (n : ℕ) (text : List ℕ) (c : Code) (cs : List Code) → bytes_eq text c.text ≡ true → code_from n text (c ∷ cs) ≡ Some (n, c.size)
+this_code n text c cs g = ap (λ x. cond x (Some (n, c.size)) (code_from (n + 1) text cs)) g
+
+behind_by : (n : ℕ) (text : List ℕ) (c : Code) (cs ds : List Code) (x : Bool) → bytes_eq text c.text ≡ x → (code_from (n + 1) text cs ≡ None → code_from (n + 1) text (cs ++ ds) ≡ code_from (n + 1 + length cs) text ds) → code_from n text (c ∷ cs) ≡ None → code_from n text (c ∷ (cs ++ ds)) ≡ code_from (n + length (c ∷ cs)) text ds
+behind_by n text c cs ds true g h e = absurd (let f = sym (this_code n text c cs g) ∙ e in cc)
+behind_by n text c cs ds false g h e =
+    other_code n text c (cs ++ ds) g ∙ h (sym (other_code n text c cs g) ∙ e) ∙ ap (λ m. code_from m text ds) (omega arith)
+
+-- behind codes among which it isn't
+behind : (n : ℕ) (text : List ℕ) (cs ds : List Code) → code_from n text cs ≡ None → code_from n text (cs ++ ds) ≡ code_from (n + length cs) text ds
+behind n text [] ds e = ap (λ m. code_from m text ds) (omega arith)
+behind n text (c ∷ cs) ds e = behind_by n text c cs ds (bytes_eq text c.text) refl (behind (n + 1) text cs ds) e
+
+code_push : (text : List ℕ) (cs : List Code) (d : Code) → bytes_eq text d.text ≡ false → code_from 0 text cs ≡ None → code_from 0 text (cs ++ d ∷ []) ≡ None
+code_push text cs d g e = behind 0 text cs (d ∷ []) e ∙ other_code (0 + length cs) text d [] g
 
 apart : (m n : ℕ) → n + 1 ≤ m → (m == n) ≡ false
 apart m n h = grind (arith, nat_tests)
 
 fresh-push : (p : Params) (n : ℕ) (s : Signal) (cs : List Code) → n ≤ number_of s → Fresh n cs → Fresh (number_of s + 1) (cs ++ code p s ∷ [])
-fresh-push p n s cs le h other above = code_push 0 (code_of other) cs (code p s) (codes_same other s ∙ apart (number_of other) (number_of s) above) (h other (omega arith))
+fresh-push p n s cs le h other above = code_push (code_of other) cs (code p s) (codes_same other s ∙ apart (number_of other) (number_of s) above) (h other (omega arith))
 
 says-vars : (p : Params) → IsInRange p → (at : ℕ) (cs : List Code) (vs : List Variable) (k n : ℕ) (ss : List Signal) → length cs ≡ k → Rise n ss → Fresh n cs
     → Says at (inside cs vs) (flat_map (var_line p) ss) (inside (cs ++ codes_of p ss) (vs ++ variables_from p k ss)) []
@@ -189,15 +201,6 @@ says-header p r rise =
 
 -- ---- a code is found at its place
 
-behind_by : (n : ℕ) (text : List ℕ) (c : Code) (cs ds : List Code) (x : Bool) → bytes_eq text c.text ≡ x → (code_from (n + 1) text cs ≡ None → code_from (n + 1) text (cs ++ ds) ≡ code_from (n + 1 + length cs) text ds) → code_from n text (c ∷ cs) ≡ None → code_from n text (c ∷ (cs ++ ds)) ≡ code_from (n + length (c ∷ cs)) text ds
-behind_by n text c cs ds true g h e = absurd (let f = rw g at e in cc)
-behind_by n text c cs ds false g h e = rw g (h (rw g at e) ∙ ap (λ m. code_from m text ds) (omega arith))
-
--- behind codes among which it isn't
-behind : (n : ℕ) (text : List ℕ) (cs ds : List Code) → code_from n text cs ≡ None → code_from n text (cs ++ ds) ≡ code_from (n + length cs) text ds
-behind n text [] ds e = ap (λ m. code_from m text ds) (omega arith)
-behind n text (c ∷ cs) ds e = behind_by n text c cs ds (bytes_eq text c.text) refl (behind (n + 1) text cs ds) e
-
 -- signals are found from a place on
 pub record FoundFirst (cs : List Code) (p : Params) (k : ℕ) (s : Signal) : Type 0 where
   pub place : code_from 0 (code_of s) cs ≡ Some (k, width_of s p)
@@ -212,7 +215,7 @@ itself n = grind (arith, nat_tests)
 found_first : (p : Params) (cs : List Code) (s : Signal) (ds : List Code) → code_from 0 (code_of s) cs ≡ None → code_from 0 (code_of s) (cs ++ code p s ∷ ds) ≡ Some (length cs, width_of s p)
 found_first p cs s ds e =
     behind 0 (code_of s) cs (code p s ∷ ds) e
-    ∙ ap (λ x. cond x (Some (0 + length cs, width_of s p)) (code_from (0 + length cs + 1) (code_of s) ds)) (codes_same s s ∙ itself (number_of s))
+    ∙ this_code (0 + length cs) (code_of s) (code p s) ds (codes_same s s ∙ itself (number_of s))
     ∙ ap (λ (m : ℕ). Some (m, width_of s p)) (omega arith)
 
 pub found_from : (p : Params) (cs all : List Code) (k n : ℕ) (ss : List Signal) → length cs ≡ k → Rise n ss → Fresh n cs → all ≡ cs ++ codes_of p ss → Found all p k ss

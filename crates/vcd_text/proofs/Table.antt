@@ -1,5 +1,6 @@
 -- The table of the signals: codes, names and widths that a text can have.
-use Rattle.std.proofs.Common.{◌≡◌, ◌+◌, ◌-◌, ◌^◌, ◌<◌, ◌≤◌, ◌==◌, ◌&&◌, ℕ, Bool, true, false, not, cond, List, [], ◌∷◌, length, filter, drop, refl, ap, ◌∙◌, arith, lit≤, lit<}
+use Rattle.std.proofs.Common.{◌≡◌, ◌+◌, ◌-◌, ◌^◌, ◌<◌, ◌≤◌, ◌==◌, ◌&&◌, ℕ, Bool, true, false, not, cond, List, [], ◌∷◌, length, filter, drop, refl, ap, ◌∙◌, arith, lit≤, lit<, zero, suc, get_or}
+use Rattle.std.proofs.lemmas.Str.{is_utf8-from_IsUtf8, IsUtf8-from_ascii}
 use Rattle.std.specs.Prelude.{nat_lt, nat_le}
 use Rattle.std.specs.List.{list_all, AllByRecursion}
 use Rattle.std.specs.Str.{bytes_eq, is_utf8}
@@ -54,8 +55,11 @@ codes_same a b = ap (λ c. bytes_eq c (code_of b)) (code_is a) ∙ ap (bytes_eq 
 abbrev is_plain : List ℕ → Bool
 is_plain w = nat_lt 0 (length w) && (list_all (λ b. not (is_white b)) w && not (is_end w))
 
+abbrev pub is_ascii : List ℕ → Bool
+is_ascii w = list_all (λ b. nat_lt b 128) w
+
 abbrev is_declarable : Signal → Bool
-is_declarable s = (is_plain (code_of s) && is_code (code_of s)) && (is_plain (name_of s) && is_utf8 (name_of s))
+is_declarable s = (is_plain (code_of s) && is_code (code_of s)) && (is_plain (name_of s) && is_ascii (name_of s))
 
 declarable : (s : Signal) → is_declarable s ≡ true
 declarable Clk = refl
@@ -96,6 +100,14 @@ negated : (x : Bool) → not x ≡ true → x ≡ false
 negated true e = absurd cc
 negated false e = refl
 
+ascii : (w : List ℕ) → is_ascii w ≡ true → (i : ℕ) → get_or w i 0 < 128
+ascii [] e i = lit< tt
+ascii (b ∷ w) e zero = let h = both (nat_lt b 128) (is_ascii w) e in grind (arith, nat_tests)
+ascii (b ∷ w) e (suc i) = ascii w (both (nat_lt b 128) (is_ascii w) e).1 i
+
+pub utf8 : (w : List ℕ) → is_ascii w ≡ true → is_utf8 w ≡ true
+utf8 w e = is_utf8-from_IsUtf8 w (IsUtf8-from_ascii w (ascii w e))
+
 -- a word that doesn't end a block
 pub record IsPlain (w : List ℕ) : Type 0 where
   pub word : IsWord w
@@ -115,10 +127,10 @@ pub record IsDeclarable (s : Signal) : Type 0 where
 
 pub is_declarable_lem : (s : Signal) → IsDeclarable s
 is_declarable_lem s =
-    let all = both (is_plain (code_of s) && is_code (code_of s)) (is_plain (name_of s) && is_utf8 (name_of s)) (declarable s) in
+    let all = both (is_plain (code_of s) && is_code (code_of s)) (is_plain (name_of s) && is_ascii (name_of s)) (declarable s) in
     let code = both (is_plain (code_of s)) (is_code (code_of s)) all.0 in
-    let name = both (is_plain (name_of s)) (is_utf8 (name_of s)) all.1 in
-    record { code = plain (code_of s) code.0; code_fits = code.1; name = plain (name_of s) name.0; name_fits = name.1 }
+    let name = both (is_plain (name_of s)) (is_ascii (name_of s)) all.1 in
+    record { code = plain (code_of s) code.0; code_fits = code.1; name = plain (name_of s) name.0; name_fits = utf8 (name_of s) name.1 }
 
 -- ---- widths
 
