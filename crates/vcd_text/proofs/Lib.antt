@@ -8,3 +8,5 @@ pub mod Numerals
 pub mod SaidLines
 pub mod Table
 pub mod SaidHeader
+pub mod SaidBody
+pub mod ReadsBack

@@ -1,0 +1,39 @@
+-- The text of a list of buses reads back.
+use Rattle.std.proofs.Common.{◌≡◌, ◌+◌, ◌*◌, ◌^◌, ◌<◌, ℕ, List, [], ◌∷◌, ◌++◌, length, None, Some, Ok, refl, sym, ap, ◌∙◌, subst, arith, lit<}
+use Rattle.std.specs.List.{AllByRecursion}
+use Rattle.xif_base.specs.declared.params.Params.{Params}
+use Rattle.xif_base.specs.Params.{IsInRange}
+use Rattle.xif_signals.specs.declared.bus.Bus.{Bus}
+use Rattle.xif_signals.specs.declared.signal.Signal.{Signal}
+use Rattle.xif_signals.specs.declared.signal.Signal.TheVariants.{Clk}
+use Rattle.xif_signals.specs.Bus.{FitsWidths}
+use Rattle.vcd_text.specs.Codes.{Code, code_from}
+use Rattle.vcd_text.specs.Reading.{Read, read_whole, ends}
+use Rattle.vcd_text.specs.Written.{wires_of, data_wires_of, variables_from, header_text, cycles_text, vcd_text_of, written_variables, written_items}
+use Rattle.vcd_text.specs.Writing.{ReadsBack}
+use Rattle.vcd_text.proofs.Says.{Says, said, says-then, says-whole}
+use Rattle.vcd_text.proofs.SaidLines.{in_body}
+use Rattle.vcd_text.proofs.Table.{wires_are, wires_rise, wires_wide}
+use Rattle.vcd_text.proofs.SaidHeader.{declaring, codes_of, Found, says-header, wires_found}
+use Rattle.vcd_text.proofs.SaidBody.{AreFound, end_time, says-cycles}
+
+all_found : (p : Params) → AreFound p (codes_of p (wires_of p))
+all_found p =
+    let found : Found (codes_of p (wires_of p)) p 0 (Clk ∷ data_wires_of p) = subst (λ (ss : List Signal). Found (codes_of p (wires_of p)) p 0 ss) (wires_are p) (wires_found p (wires_rise p)) in
+    record { clock = found.0.place; others = found.1; wide = wires_wide p }
+
+says-text : (p : Params) (buses : List Bus) → IsInRange p → AllByRecursion (FitsWidths p) buses → length buses < 2 ^ 60
+    → Says 0 (declaring [] [] []) (vcd_text_of p buses) (in_body (codes_of p (wires_of p)) (written_variables p) (end_time 0 buses)) (written_items p buses)
+says-text p buses r fits l =
+    let cs = codes_of p (wires_of p) in
+    let vs = written_variables p in
+    says-then 0 (declaring [] [] []) (in_body cs vs 0) (in_body cs vs (end_time 0 buses)) (header_text p) (cycles_text p 0 None buses) [] (written_items p buses)
+    (says-header p r (wires_rise p))
+    (says-cycles p cs vs (all_found p) (0 + length (header_text p)) 0 0 None buses fits (omega arith) (omega arith))
+
+pub reads_back : (p : Params) (buses : List Bus) → IsInRange p → AllByRecursion (FitsWidths p) buses → length buses < 2 ^ 60 → ReadsBack p buses
+reads_back p buses r fits l =
+    let s = in_body (codes_of p (wires_of p)) (written_variables p) (end_time 0 buses) in
+    let text = vcd_text_of p buses in
+    let e : read_whole text ≡ said s (written_items p buses) = says-whole (declaring [] [] []) s text (written_items p buses) (says-text p buses r fits l) in
+    ap (λ (x : Read). ends x.items x.state (length text)) e
