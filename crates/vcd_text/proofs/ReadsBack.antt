@@ -1,6 +1,7 @@
 -- The text of a list of buses reads back.
 use Rattle.std.proofs.Common.{◌≡◌, ◌+◌, ◌*◌, ◌^◌, ◌<◌, ℕ, List, [], ◌∷◌, ◌++◌, length, None, Some, Ok, refl, sym, ap, ◌∙◌, subst, arith, lit<}
-use Rattle.std.specs.List.{AllByRecursion}
+use Rattle.std.specs.List.{All, AllByRecursion}
+use Rattle.std.proofs.lemmas.List.Elements.{All-head, All-tail}
 use Rattle.xif_base.specs.declared.params.Params.{Params}
 use Rattle.xif_base.specs.Params.{IsInRange}
 use Rattle.xif_signals.specs.declared.bus.Bus.{Bus}
@@ -31,9 +32,16 @@ says-text p buses r fits l =
     (says-header p r (wires_rise p))
     (says-cycles p cs vs (all_found p) (0 + length (header_text p)) 0 0 None buses fits (omega arith) (omega arith))
 
-pub reads_back : (p : Params) (buses : List Bus) → IsInRange p → AllByRecursion (FitsWidths p) buses → length buses < 2 ^ 60 → ReadsBack p buses
+reads_back : (p : Params) (buses : List Bus) → IsInRange p → AllByRecursion (FitsWidths p) buses → length buses < 2 ^ 60 → ReadsBack p buses
 reads_back p buses r fits l =
     let s = in_body (codes_of p (wires_of p)) (written_variables p) (end_time 0 buses) in
     let text = vcd_text_of p buses in
     let e : read_whole text ≡ said s (written_items p buses) = says-whole (declaring [] [] []) s text (written_items p buses) (says-text p buses r fits l) in
     ap (λ (x : Read). ends x.items x.state (length text)) e
+
+all_by : {X : Type 0} (P : X → Type 0) (xs : List X) → All P xs → AllByRecursion P xs
+all_by P [] h = tt
+all_by P (x ∷ xs) h = (All-head P x xs h, all_by P xs (All-tail P x xs h))
+
+pub law : (p : Params) (buses : List Bus) → IsInRange p → All (FitsWidths p) buses → length buses < 2 ^ 60 → ReadsBack p buses
+law p buses r fits l = reads_back p buses r (all_by (FitsWidths p) buses fits) l
