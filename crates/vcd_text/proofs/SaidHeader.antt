@@ -223,7 +223,7 @@ found_from p cs all k n [] l rise fresh e = tt
 found_from p cs all k n (s ∷ ss) l rise fresh e = (
   record { place = ap (code_from 0 (code_of s)) e ∙ found_first p cs s (codes_of p ss) (fresh s rise.0) ∙ ap (λ (m : ℕ). Some (m, width_of s p)) l },
   found_from p (cs ++ code p s ∷ []) all (k + 1) (number_of s + 1) ss (omega (arith, length-append cs (code p s ∷ []))) rise.1 (fresh-push p n s cs rise.0 fresh)
-  (e ∙ sym (append_assoc cs (code p s ∷ []) (codes_of p ss))),
+      (e ∙ sym (append_assoc cs (code p s ∷ []) (codes_of p ss))),
 )
 
 pub wires_found : (p : Params) → Rise 0 (wires_of p) → Found (codes_of p (wires_of p)) p 0 (wires_of p)

@@ -20,6 +20,8 @@ mod stop;
 mod token;
 mod word;
 mod writer;
+#[cfg(test)]
+mod writer_tests;
 
 pub use declaration::{Declarations, Variable};
 pub use digit::{Digit, Digits};

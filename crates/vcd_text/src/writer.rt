@@ -1,5 +1,5 @@
 // The text of a list of buses, cycle by cycle.
-ghost use Rattle.std.specs.Prelude.{◌≡◌, ◌≢◌, ◌<◌, ◌≤◌, ◌^◌, ◌++◌, ◌∷◌, [], ℕ, List, IfOk, OnOk, OnErr, option_copied, nat_lt, if◌then◌else◌};
+ghost use Rattle.std.specs.Prelude.{◌≡◌, ◌≢◌, ◌<◌, ◌≤◌, ◌^◌, ◌+◌, ◌++◌, ◌∷◌, [], ℕ, List, IfOk, OnOk, OnErr, option_copied, nat_lt, if◌then◌else◌};
 ghost use Rattle.std.specs.List.{flat_map, AllByRecursion};
 ghost use Rattle.xif_base.specs.Params.{IsInRange};
 ghost use Rattle.xif_signals.specs.declared.signal.Signal.TheVariants.{Clk};
@@ -52,7 +52,7 @@ impl Writer {
 
     /// The first piece of a text, which begins anew: the declarations.
     pub fn header(&mut self, alloc: Global) -> Result<Vec<u8>, NoMemory>
-        ensures params { self.new.params ≡ self.old.params }
+        ensures begun { OnOk result (self.new ≡ begun self.old.params) }
         ensures wrote { IfOk result (λ piece. Wrote self.new [] piece.items) }
         ensures err { OnErr result (self.new ≡ self.old) }
     {
@@ -68,6 +68,7 @@ impl Writer {
         requires room { self.old.cycles < 2 ^ 60 }
         requires fits { FitsWidths self.old.params bus.now }
         ensures params { self.new.params ≡ self.old.params }
+        ensures count { OnOk result (self.new.cycles ≡ self.old.cycles + 1) }
         ensures wrote { IfOk result (λ piece. (buses : List Bus) (text : List ℕ) → Wrote self.old buses text
             → Wrote self.new (buses ++ bus.now ∷ []) (text ++ piece.items)) }
         ensures err { OnErr result (self.new ≡ self.old) }
