@@ -191,11 +191,11 @@ rise-filter_by : (f : Signal → Bool) (n : ℕ) (s : Signal) (ss : List Signal)
 rise-filter_by f n s ss true e l h = rw e (l, h)
 rise-filter_by f n s ss false e l h = rw e (rise-from n (number_of s + 1) (filter f ss) (omega arith) h)
 
-rise-filter : (f : Signal → Bool) (n : ℕ) (ss : List Signal) → Rise n ss → Rise n (filter f ss)
+pub rise-filter : (f : Signal → Bool) (n : ℕ) (ss : List Signal) → Rise n ss → Rise n (filter f ss)
 rise-filter f n [] h = tt
 rise-filter f n (s ∷ ss) h = rise-filter_by f n s ss (f s) refl h.0 (rise-filter f (number_of s + 1) ss h.1)
 
-signals_rise : Rise 0 signals
+pub signals_rise : Rise 0 signals
 signals_rise = (lit≤ tt, (lit≤ tt, (lit≤ tt, (lit≤ tt, (lit≤ tt, (lit≤ tt, (lit≤ tt, (lit≤ tt, (lit≤ tt, (lit≤ tt, (lit≤ tt, (lit≤ tt, (lit≤ tt, (lit≤ tt, (lit≤ tt, (lit≤ tt, (lit≤ tt, (lit≤ tt, (lit≤ tt, (lit≤ tt, (lit≤ tt, (lit≤ tt, (lit≤ tt, (lit≤ tt, (lit≤ tt, (lit≤ tt, (lit≤ tt, (lit≤ tt, (lit≤ tt, tt)))))))))))))))))))))))))))))
 
 pub wires_rise : (p : Params) → Rise 0 (wires_of p)
