@@ -1,3 +1,4 @@
 pub mod CodeTable
+pub mod Following
 pub mod Front
 pub mod Texts
