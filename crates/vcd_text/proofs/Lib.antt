@@ -1,4 +1,5 @@
 pub mod CodeTable
 pub mod Following
 pub mod Front
+pub mod Standing
 pub mod Texts

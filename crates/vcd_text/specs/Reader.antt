@@ -5,7 +5,6 @@ use Rattle.vcd_text.specs.declared.fault.FeedFail.{FeedFail}
 use Rattle.vcd_text.specs.declared.fault.FeedFail.TheVariants.{Vcd, NoMemory}
 use Rattle.vcd_text.specs.declared.fault.VcdFault.{VcdFault}
 use Rattle.vcd_text.specs.declared.item.Item.{Item}
-use Rattle.vcd_text.specs.declared.state.State.{State}
 use Rattle.vcd_text.specs.Tokens.{rest}
 use Rattle.vcd_text.specs.Reading.{Read, Reading, read_so_far, read_whole, reading_of}
 
@@ -36,7 +35,12 @@ pub record Stands (p : Progress) (text : List ℕ) (taken : List Item) : Type 0 
   pub alive : p.has_failed ≡ false
   pub read : with_taken taken p.read ≡ read_so_far text
   -- what follows a fault isn't looked at
-  pub run : (s : State) → p.read.state ≡ Ok s → OpenAt p text
+  pub run : IsOk p.read.state → OpenAt p text
+
+-- a fault was told
+pub record IsFaulty (p : Progress) (f : VcdFault) : Type 0 where
+  pub alive : p.has_failed ≡ false
+  pub fault : p.read.state ≡ Err f
 
 -- a reader after an answer to feed, which is about the complete tokens of the text so far
 abbrev pub Fed : Progress → List ℕ → List Item → Result Unit FeedFail → Type 0

@@ -2,8 +2,8 @@
 ghost use Rattle.std.specs.Prelude.{◌≡◌, ◌<◌, ◌≤◌, ◌^◌, ◌+◌, ◌++◌, [], ◌∷◌, ℕ, List, None, length, OnOk};
 ghost use Rattle.std.specs.List.{fold};
 ghost use Rattle.vcd_text.specs.declared.item.Item.{Item};
-ghost use Rattle.vcd_text.specs.Reading.{go, open_at};
-ghost use Rattle.vcd_text.specs.Scanner.{Follows, Steps, read_by};
+ghost use Rattle.vcd_text.specs.Reading.{go, fault_at_end};
+ghost use Rattle.vcd_text.specs.Scanner.{Follows, Steps, HasRoom, read_by, outcome};
 ghost use Rattle.vcd_text.specs.Tokens.{token_before};
 
 use crate::codes::Codes;
@@ -11,7 +11,7 @@ use crate::scopes::Scopes;
 use crate::state::{Part, State};
 use crate::stop::Stop;
 use crate::token::is_white;
-use crate::{Declarations, Item, VcdFault};
+use crate::{Declarations, Item, VcdCause, VcdFault};
 use std::alloc::Global;
 use std::collections::VecDeque;
 use xif_base::NoMemory;
@@ -56,9 +56,9 @@ impl Scanner {
     /// Takes the bytes of a piece.
     pub fn bytes(&mut self, piece: &[u8]) -> Result<(), NoMemory>
         requires room { self.old.size + length piece.now < 2 ^ 32 }
-        requires codes { length self.old.state.codes ≤ self.old.size }
+        requires codes { HasRoom self.old }
         ensures size { self.new.size ≤ self.old.size + length piece.now }
-        ensures codes { length self.new.state.codes ≤ self.new.size }
+        ensures codes { HasRoom self.new }
         ensures follows { OnOk result ((text : List ℕ) (taken : List Item) →
             Follows self.old text taken → Follows self.new (text ++ piece.now) taken) }
     {
@@ -71,9 +71,9 @@ impl Scanner {
     /// Takes a byte. Behind a fault nothing is looked at.
     fn byte(&mut self, byte: u8) -> Result<(), NoMemory>
         requires room { self.old.size < 2 ^ 32 }
-        requires codes { length self.old.state.codes ≤ self.old.size }
+        requires codes { HasRoom self.old }
         ensures size { self.new.size ≤ self.old.size + 1 }
-        ensures codes { length self.new.state.codes ≤ self.new.size }
+        ensures codes { HasRoom self.new }
         ensures follows { OnOk result ((text : List ℕ) (taken : List Item) →
             Follows self.old text taken → Follows self.new (text ++ byte ∷ []) taken) }
     {
@@ -89,9 +89,9 @@ impl Scanner {
     fn sound_byte(&mut self, byte: u8) -> Result<(), NoMemory>
         requires room { self.old.size < 2 ^ 32 }
         requires sound { self.old.fault ≡ None }
-        requires codes { length self.old.state.codes ≤ self.old.size }
+        requires codes { HasRoom self.old }
         ensures size { self.new.size ≤ self.old.size + 1 }
-        ensures codes { length self.new.state.codes ≤ self.new.size }
+        ensures codes { HasRoom self.new }
         ensures steps { OnOk result (Steps self.old self.new byte) }
     {
         if is_white(byte) {
@@ -107,9 +107,10 @@ impl Scanner {
     /// Ends the token that is open, if there is one.
     pub fn end_token(&mut self) -> Result<(), NoMemory>
         requires sound { self.old.fault ≡ None }
-        requires codes { length self.old.state.codes < 2 ^ 32 }
+        requires room { self.old.size < 2 ^ 32 }
+        requires codes { HasRoom self.old }
         ensures size { self.new.size ≡ self.old.size }
-        ensures codes { length self.new.state.codes ≤ length self.old.state.codes + 1 }
+        ensures codes { HasRoom self.new }
         ensures run { self.new.run.items ≡ [] }
         ensures read { OnOk result ((taken : List Item) →
             read_by self.new taken ≡ fold go (read_by self.old taken) (token_before self.old.size self.old.run.items)) }
@@ -122,9 +123,11 @@ impl Scanner {
     /// Reads the token that is open, if there is one.
     fn read_token(&mut self) -> Result<(), NoMemory>
         requires sound { self.old.fault ≡ None }
-        requires codes { length self.old.state.codes < 2 ^ 32 }
+        requires room { self.old.size < 2 ^ 32 }
+        requires codes { HasRoom self.old }
         ensures size { self.new.size ≡ self.old.size }
-        ensures codes { length self.new.state.codes ≤ length self.old.state.codes + 1 }
+        ensures run { self.new.run.items ≡ self.old.run.items }
+        ensures codes { length self.new.state.codes ≤ length self.old.state.codes + length self.old.run.items }
         ensures read { OnOk result ((taken : List Item) →
             read_by self.new taken ≡ fold go (read_by self.old taken) (token_before self.old.size self.old.run.items)) }
     {
@@ -146,16 +149,21 @@ impl Scanner {
         }
     }
 
-    /// Where the part begins that is open, if there is one.
-    pub fn open_at(&self) -> Option<u64>
-        ensures { result ≡ open_at self.now.state.part }
+    /// The fault of a text that ends here.
+    pub fn fault_at_end(&self) -> Option<VcdFault>
+        ensures { result ≡ fault_at_end self.now.size self.now.state }
     {
         match &self.state.part {
-            Part::Nothing => None,
+            Part::Nothing => {
+                if self.state.is_declared {
+                    return None;
+                }
+                Some(VcdFault { at: self.size, cause: VcdCause::NoDefinitionsEnd })
+            }
             Part::Block { at, .. }
             | Part::Skipped { at }
             | Part::Vector { at, .. }
-            | Part::Passed { at } => Some(*at),
+            | Part::Passed { at } => Some(VcdFault { at: *at, cause: VcdCause::OpenBlock }),
         }
     }
 }
