@@ -23,7 +23,8 @@ use Rattle.vcd_text.specs.Codes.{Code, code_from}
 use Rattle.vcd_text.specs.Tokens.{Token}
 use Rattle.vcd_text.specs.Words.{number, digit, digits, keyword, is_command, is_end, is_code}
 use Rattle.vcd_text.specs.Grammar.{Step, fault, goes, with_part, change_of, change, time_of, scalar, vector, command, body, var_at, var_sized, var, scope, upscope, block, opened, declaration, kept, declared, full_name, in_part, step}
-use Rattle.vcd_text.specs.Sizes.{size_of, size_at, AreConsistent, FitsDeclared, IsPlaced, IsSound}
+use Rattle.vcd_text.specs.Sizes.{size_of, AreConsistent, FitsDeclared}
+use Rattle.vcd_text.specs.Sound.{size_at, IsPlaced, IsSound}
 
 -- ---- what a step does
 
@@ -257,5 +258,5 @@ in_part-goes (Skipped at) s t h p clear = goes_if s (is_end t.text) _ _ (λ _. g
 in_part-goes (Vector at ds) s t h p clear = change-goes s at ds t.at t.text h p.0 p.1
 in_part-goes (Passed at) s t h p clear = goes_same s s h refl refl
 
-step-goes : (s : State) (t : Token) → IsSound s → GoesOn (with_part s Nothing) (step s t)
+pub step-goes : (s : State) (t : Token) → IsSound s → GoesOn (with_part s Nothing) (step s t)
 step-goes s t h = in_part-goes s.part (with_part s Nothing) t (record { consistent = h.consistent; sizes = h.sizes; placed = tt }) h.placed (λ d. tt)

@@ -6,4 +6,5 @@ pub mod Reading
 pub mod Reader
 pub mod Scanner
 pub mod Sizes
+pub mod Sound
 pub mod Steps

@@ -115,10 +115,9 @@ impl State {
         let name = self.scopes.full_name(alloc, name)?;
         match self.codes.find(code) {
             None => {
-                // The variable first, so that a code that finds no memory leaves the codes as they were.
                 let number = self.codes.next();
-                self.variables.push(Variable { name, code: number, size })?;
                 self.codes.push(alloc, code, size)?;
+                self.variables.push(Variable { name, code: number, size })?;
                 Ok(None)
             }
             Some((number, known)) => {

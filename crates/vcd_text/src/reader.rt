@@ -1,8 +1,10 @@
 // Reads a text in pieces.
-ghost use Rattle.std.specs.Prelude.{◌≡◌, ◌<◌, ◌≤◌, ◌^◌, ◌+◌, ◌++◌, ◌∷◌, [], ℕ, List, None, Some, true, false, cond, length, slice_get, MatchOption};
+ghost use Rattle.std.specs.Prelude.{◌≡◌, ◌<◌, ◌≤◌, ◌^◌, ◌+◌, ◌++◌, ◌∷◌, [], ℕ, List, None, Some, true, false, cond, length, slice_get, IfSome, MatchOption};
 ghost use Rattle.std.specs.Option.{option_map};
 ghost use Rattle.vcd_text.specs.declared.fault.VcdFault.{VcdFault};
 ghost use Rattle.vcd_text.specs.declared.item.Item.{Item};
+ghost use Rattle.vcd_text.specs.declared.declaration.Variable.{Variable};
+ghost use Rattle.vcd_text.specs.Sizes.{AreConsistent, FitsDeclared};
 ghost use Rattle.vcd_text.specs.Reader.{Stands, Fed, Closed, IsFaulty, after_take};
 
 use crate::scanner::Scanner;
@@ -20,15 +22,15 @@ pub struct Reader {
 }
 
 impl Model for Reader {
-    ghost use Rattle.std.specs.Prelude.{◌<◌, ◌^◌};
     ghost use Rattle.vcd_text.specs.Reader.{Progress};
-    ghost use Rattle.vcd_text.specs.Scanner.{HasRoom, progress_of};
+    ghost use Rattle.vcd_text.specs.Scanner.{progress_of};
+    ghost use Rattle.vcd_text.specs.Sound.{IsKept};
 
     ghost Value = { Progress };
 
     ghost view = { λ r. progress_of r.scanner r.has_failed r.is_closed };
 
-    ghost invariant = { λ r. HasRoom r.scanner × (r.scanner.size < 2 ^ 32) };
+    ghost invariant = { λ r. IsKept r.scanner r.has_failed };
 }
 
 impl Reader {
@@ -52,6 +54,7 @@ impl Reader {
         ensures fed { (text : List ℕ) (taken : List Item) → Stands self.old text taken → Fed self.new (text ++ piece.now) taken result }
         ensures fault { (f : VcdFault) → IsFaulty self.old f → (result ≡ Err (FeedFail.Vcd f)) × (self.new ≡ self.old) }
         ensures failed { self.old.has_failed ≡ true → (result ≡ Err FeedFail.NoMemory) × (self.new ≡ self.old) }
+        ensures declared { (vs : List Variable) → self.old.read.variables ≡ Some vs → self.new.has_failed ≡ false → self.new.read.variables ≡ Some vs }
         ensures size { self.new.size ≤ self.old.size + length piece.now }
         ensures open { self.new.is_closed ≡ false }
     {
@@ -81,6 +84,7 @@ impl Reader {
         ensures closed { (text : List ℕ) (taken : List Item) → Stands self.old text taken → Closed self.new text taken result }
         ensures fault { (f : VcdFault) → IsFaulty self.old f → (result ≡ Err (FeedFail.Vcd f)) × (self.new ≡ self.old) }
         ensures failed { self.old.has_failed ≡ true → (result ≡ Err FeedFail.NoMemory) × (self.new ≡ self.old) }
+        ensures declared { (vs : List Variable) → self.old.read.variables ≡ Some vs → self.new.has_failed ≡ false → self.new.read.variables ≡ Some vs }
         ensures told { (f : VcdFault) → result ≡ Err (FeedFail.Vcd f) → IsFaulty self.new f }
         ensures size { self.new.size ≡ self.old.size }
     {
@@ -120,6 +124,7 @@ impl Reader {
         ensures rest { self.new ≡ after_take self.old }
         ensures stands { (text : List ℕ) (taken : List Item) → Stands self.old text taken →
             MatchOption result (Stands self.new text taken) (λ item. Stands self.new text (taken ++ item ∷ [])) }
+        ensures fits { (vs : List Variable) → self.old.read.variables ≡ Some vs → IfSome result (FitsDeclared vs) }
     {
         if self.has_failed {
             return None;
@@ -129,7 +134,8 @@ impl Reader {
 
     /// The variables that the text declares, once the end of the declarations was read.
     pub fn declarations(&self) -> Option<&Declarations>
-        ensures { option_map (λ d. d.now) result ≡ cond self.now.has_failed None self.now.read.variables }
+        ensures variables { option_map (λ d. d.now) result ≡ cond self.now.has_failed None self.now.read.variables }
+        ensures consistent { IfSome result (λ d. AreConsistent d.now) }
     {
         if self.has_failed || !self.scanner.state.is_declared {
             return None;

@@ -4,6 +4,7 @@ ghost use Rattle.std.specs.List.{fold};
 ghost use Rattle.vcd_text.specs.declared.item.Item.{Item};
 ghost use Rattle.vcd_text.specs.Reading.{go, fault_at_end};
 ghost use Rattle.vcd_text.specs.Scanner.{Follows, Steps, HasRoom, read_by, outcome};
+ghost use Rattle.vcd_text.specs.Sound.{IsSoundRead, Onward};
 ghost use Rattle.vcd_text.specs.Tokens.{token_before};
 
 use crate::codes::Codes;
@@ -34,7 +35,8 @@ impl Scanner {
     pub fn new(alloc: Global) -> Scanner
         ensures follows { Follows result [] [] }
         ensures size { result.size ≡ 0 }
-        ensures codes { result.state.codes ≡ [] }
+        ensures codes { HasRoom result }
+        ensures sound { IsSoundRead (read_by result []) }
     {
         Scanner {
             alloc,
@@ -58,9 +60,10 @@ impl Scanner {
         requires room { self.old.size + length piece.now < 2 ^ 32 }
         requires codes { HasRoom self.old }
         ensures size { self.new.size ≤ self.old.size + length piece.now }
-        ensures codes { HasRoom self.new }
+        ensures codes { OnOk result (HasRoom self.new) }
         ensures follows { OnOk result ((text : List ℕ) (taken : List Item) →
             Follows self.old text taken → Follows self.new (text ++ piece.now) taken) }
+        ensures onward { OnOk result (Onward (read_by self.old []) (read_by self.new [])) }
     {
         for byte in piece {
             self.byte(*byte)?;
@@ -73,9 +76,10 @@ impl Scanner {
         requires room { self.old.size < 2 ^ 32 }
         requires codes { HasRoom self.old }
         ensures size { self.new.size ≤ self.old.size + 1 }
-        ensures codes { HasRoom self.new }
+        ensures codes { OnOk result (HasRoom self.new) }
         ensures follows { OnOk result ((text : List ℕ) (taken : List Item) →
             Follows self.old text taken → Follows self.new (text ++ byte ∷ []) taken) }
+        ensures onward { OnOk result (Onward (read_by self.old []) (read_by self.new [])) }
     {
         match self.fault {
             Some(_) => return Ok(()),
@@ -91,15 +95,14 @@ impl Scanner {
         requires sound { self.old.fault ≡ None }
         requires codes { HasRoom self.old }
         ensures size { self.new.size ≤ self.old.size + 1 }
-        ensures codes { HasRoom self.new }
+        ensures codes { OnOk result (HasRoom self.new) }
         ensures steps { OnOk result (Steps self.old self.new byte) }
     {
         if is_white(byte) {
-            let ended = self.end_token();
-            self.size += 1;
-            return ended;
+            self.end_token()?;
+        } else {
+            self.run.push(byte)?;
         }
-        self.run.push(byte)?;
         self.size += 1;
         Ok(())
     }
@@ -110,14 +113,15 @@ impl Scanner {
         requires room { self.old.size < 2 ^ 32 }
         requires codes { HasRoom self.old }
         ensures size { self.new.size ≡ self.old.size }
-        ensures codes { HasRoom self.new }
-        ensures run { self.new.run.items ≡ [] }
+        ensures codes { OnOk result (HasRoom self.new) }
+        ensures run { OnOk result (self.new.run.items ≡ []) }
         ensures read { OnOk result ((taken : List Item) →
             read_by self.new taken ≡ fold go (read_by self.old taken) (token_before self.old.size self.old.run.items)) }
+        ensures onward { OnOk result (Onward (read_by self.old []) (read_by self.new [])) }
     {
-        let ended = self.read_token();
+        self.read_token()?;
         self.run.clear();
-        ended
+        Ok(())
     }
 
     /// Reads the token that is open, if there is one.
@@ -127,7 +131,7 @@ impl Scanner {
         requires codes { HasRoom self.old }
         ensures size { self.new.size ≡ self.old.size }
         ensures run { self.new.run.items ≡ self.old.run.items }
-        ensures codes { length self.new.state.codes ≤ length self.old.state.codes + length self.old.run.items }
+        ensures codes { OnOk result (length self.new.state.codes ≤ length self.old.state.codes + length self.old.run.items) }
         ensures read { OnOk result ((taken : List Item) →
             read_by self.new taken ≡ fold go (read_by self.old taken) (token_before self.old.size self.old.run.items)) }
     {
