@@ -46,29 +46,29 @@ start = record { scopes = []; codes = []; variables = []; is_declared = false; t
 abbrev pub read_so_far : List ℕ → Read
 read_so_far text = fold go (from start) (complete [] 0 text)
 
--- the part that is open where a text ends
-abbrev pub open_at : Part → Option ℕ
-open_at Nothing = None
-open_at (Block at k words) = Some at
-open_at (Skipped at) = Some at
-open_at (Vector at ds) = Some at
-open_at (Passed at) = Some at
+-- the fault of a text that ends at an offset: what is open, or the declarations that aren't complete
+abbrev pub fault_in : Part → Bool → ℕ → Option VcdFault
+fault_in Nothing is_declared end = cond is_declared None (Some (record { at = end; cause = NoDefinitionsEnd }))
+fault_in (Block at k words) is_declared end = Some (record { at = at; cause = OpenBlock })
+fault_in (Skipped at) is_declared end = Some (record { at = at; cause = OpenBlock })
+fault_in (Vector at ds) is_declared end = Some (record { at = at; cause = OpenBlock })
+fault_in (Passed at) is_declared end = Some (record { at = at; cause = OpenBlock })
+
+abbrev pub fault_at_end : ℕ → State → Option VcdFault
+fault_at_end end s = fault_in s.part s.is_declared end
 
 -- what a whole text says: the variables that it declares and its items
 pub record Reading : Type 0 where
   pub variables : List Variable
   pub items : List Item
 
-abbrev pub ends_in : Option ℕ → State → ℕ → List Item → Result Reading VcdFault
-ends_in (Some at) s end items = Err (record { at = at; cause = OpenBlock })
-ends_in None s end items =
-    cond s.is_declared
-    (Ok (record { variables = s.variables; items = items }))
-    (Err (record { at = end; cause = NoDefinitionsEnd }))
+abbrev pub reading_by : List Variable → List Item → Option VcdFault → Result Reading VcdFault
+reading_by vs items None = Ok (record { variables = vs; items = items })
+reading_by vs items (Some f) = Err f
 
 -- the text ends, at an offset
 abbrev pub ends : List Item → Result State VcdFault → ℕ → Result Reading VcdFault
-ends items (Ok s) end = ends_in (open_at s.part) s end items
+ends items (Ok s) end = reading_by s.variables items (fault_at_end end s)
 ends items (Err f) end = Err f
 
 -- what is read of a whole text

@@ -1,5 +1,5 @@
 -- What the code's step answers.
-use Rattle.std.specs.Prelude.{◌≡◌, ◌≤◌, ◌+◌, length, Option, Some, None, Result, Ok, Err}
+use Rattle.std.specs.Prelude.{⊤, ◌≡◌, ◌≤◌, ◌+◌, length, Option, Some, None, Result, Ok, Err}
 use Rattle.vcd_text.specs.declared.item.Item.{Item}
 use Rattle.vcd_text.specs.declared.state.State.{State}
 use Rattle.vcd_text.specs.declared.stop.Stop.{Stop}
@@ -15,5 +15,5 @@ pub record SameDeclared (old new : State) : Type 0 where
 -- the state after an answer, which is what the definition gives but for want of memory
 abbrev pub Gives : State → State → Result (Option Item) Stop → Step → Type 0
 Gives old new (Ok item) given = (given ≡ Ok (new, item)) × (length new.codes ≤ length old.codes + 1)
-Gives old new (Err NoMemory) given = new.codes ≡ old.codes
+Gives old new (Err NoMemory) given = ⊤
 Gives old new (Err (Fault f)) given = (given ≡ Err f) × SameDeclared old new
