@@ -1,6 +1,6 @@
 -- Where the bits of each signal come from, by a map and the variables that a waveform declares.
-use Rattle.std.specs.Prelude.{◌+◌, ◌-◌, ◌==◌, ◌&&◌, ◌||◌, ℕ, Bool, true, false, cond, nat_lt, nat_le, List, [], ◌∷◌, ◌++◌, length, filter, replicate, slice_index_or, codes, bytes_eq, Option, Some, None, Result, Ok, Err}
-use Rattle.std.specs.List.{list_all}
+use Rattle.std.specs.Prelude.{◌≡◌, ⊤, ◌+◌, ◌-◌, ◌==◌, ◌&&◌, ◌||◌, ℕ, Bool, not, cond, nat_lt, nat_le, List, [], ◌∷◌, ◌++◌, filter, replicate, slice_index_or, codes, bytes_eq, Option, Some, None, Result, Ok, Err}
+use Rattle.std.specs.List.{list_all, list_any}
 use Rattle.xif_base.specs.declared.params.Params.{Params}
 use Rattle.xif_signals.specs.declared.signal.Signal.{Signal}
 use Rattle.xif_signals.specs.declared.signal.Signal.TheVariants.{RstN}
@@ -12,6 +12,8 @@ use Rattle.xif_sampler.specs.declared.fault.MapFault.{MapFault}
 use Rattle.xif_sampler.specs.declared.fault.MapFault.TheVariants.{Missing, Ambiguous, Narrow}
 use Rattle.xif_sampler.specs.declared.source.Source.{Source}
 use Rattle.xif_sampler.specs.declared.source.Source.TheVariants.{Fixed, Bits}
+use Rattle.xif_sampler.specs.declared.fault.MapFail.{MapFail}
+use Rattle.xif_sampler.specs.declared.fault.MapFail.TheVariants.{Map, NoMemory}
 
 -- the place of a signal, by the list of all places in the order of the table
 abbrev pub place_at : List Place → Signal → Place
@@ -24,6 +26,10 @@ defaults = replicate 29 Default
 -- the variables of a name
 abbrev pub named : List ℕ → List Variable → List Variable
 named name variables = filter (λ v. bytes_eq v.name name) variables
+
+-- whether there is one
+abbrev pub has_named : List ℕ → List Variable → Bool
+has_named name variables = list_any (λ v. bytes_eq v.name name) variables
 
 -- The variable that is meant by those of one name: they have one code.
 abbrev pub variable_of : Signal → List Variable → Result Variable MapFault
@@ -53,7 +59,7 @@ default_name s = codes "xif." ++ name_of s
 -- the reset, where no variable has its default name
 abbrev pub is_reset_left_out : List Variable → Signal → Bool
 is_reset_left_out variables s =
-    number_of s == number_of RstN && length (named (default_name s) variables) == 0
+    number_of s == number_of RstN && not (has_named (default_name s) variables)
 
 -- where a signal of some bits is found
 abbrev pub source_in : List Variable → Signal → ℕ → Place → Result Source MapFault
@@ -83,3 +89,9 @@ sources_along source (s ∷ ss) = with_next (source s) (sources_along source ss)
 -- that order that has one.
 abbrev pub sources_of : List Place → List Variable → Params → Result (List Source) MapFault
 sources_of map variables p = sources_along (source_of map variables p) signals
+
+-- what an answer says of the sources, or of a fault; want of memory is free
+abbrev pub Gives : {A : Type 0} → Result A MapFail → Result A MapFault → Type 0
+Gives (Ok found) wanted = wanted ≡ Ok found
+Gives (Err (Map fault)) wanted = wanted ≡ Err fault
+Gives (Err NoMemory) wanted = ⊤

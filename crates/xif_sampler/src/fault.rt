@@ -1,4 +1,5 @@
 // Why a map doesn't fit the variables of a waveform.
+use std::alloc::AllocError;
 use xif_base::NoMemory;
 use xif_signals::Signal;
 
@@ -28,6 +29,28 @@ impl From<NoMemory> for MapFail {
     ghost from_gives = { λ _ e. e ≡ NoMemory };
 
     fn from(_: NoMemory) -> Self {
+        MapFail::NoMemory
+    }
+}
+
+impl From<MapFault> for MapFail {
+    ghost use Rattle.std.specs.Prelude.{◌≡◌};
+    ghost use Rattle.xif_sampler.specs.declared.fault.MapFail.TheVariants.{Map};
+
+    ghost from_gives = { λ fault e. e ≡ Map fault };
+
+    fn from(fault: MapFault) -> Self {
+        MapFail::Map(fault)
+    }
+}
+
+impl From<AllocError> for MapFail {
+    ghost use Rattle.std.specs.Prelude.{◌≡◌};
+    ghost use Rattle.xif_sampler.specs.declared.fault.MapFail.TheVariants.{NoMemory};
+
+    ghost from_gives = { λ _ e. e ≡ NoMemory };
+
+    fn from(_: AllocError) -> Self {
         MapFail::NoMemory
     }
 }

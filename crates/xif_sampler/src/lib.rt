@@ -8,7 +8,9 @@
 //! of a map), `Digits` (what bits a value has) and `Samples` (the instants of a waveform, and its samples).
 #![tactic(auto)]
 
+mod digits;
 mod fault;
+mod find;
 mod place;
 mod source;
 

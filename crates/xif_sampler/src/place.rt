@@ -42,3 +42,58 @@ impl Model for SignalMap {
 
     ghost view = { λ m. m.places };
 }
+
+impl SignalMap {
+    /// Each signal is found in the variable of its default name.
+    pub fn new() -> SignalMap
+        ensures { result ≡ defaults }
+    {
+        SignalMap {
+            places: [
+                Place::Default,
+                Place::Default,
+                Place::Default,
+                Place::Default,
+                Place::Default,
+                Place::Default,
+                Place::Default,
+                Place::Default,
+                Place::Default,
+                Place::Default,
+                Place::Default,
+                Place::Default,
+                Place::Default,
+                Place::Default,
+                Place::Default,
+                Place::Default,
+                Place::Default,
+                Place::Default,
+                Place::Default,
+                Place::Default,
+                Place::Default,
+                Place::Default,
+                Place::Default,
+                Place::Default,
+                Place::Default,
+                Place::Default,
+                Place::Default,
+                Place::Default,
+                Place::Default,
+            ],
+        }
+    }
+
+    /// The place of a signal.
+    pub fn get(&self, signal: Signal) -> &Place
+        ensures { result.now ≡ place_at self.now signal }
+    {
+        &self.places[usize::from(signal.number())]
+    }
+
+    /// Gives a signal this place, and leaves those of the others.
+    pub fn set(&mut self, signal: Signal, place: Place)
+        ensures { self.new ≡ slice_set self.old (number_of signal) place }
+    {
+        self.places[usize::from(signal.number())] = place;
+    }
+}
