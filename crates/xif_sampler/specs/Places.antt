@@ -87,7 +87,7 @@ sources_along source (s ∷ ss) = with_next (source s) (sources_along source ss)
 
 -- Where the bits of all signals come from, in the order of the table, or the fault of the first signal in
 -- that order that has one.
-abbrev pub sources_of : List Place → List Variable → Params → Result (List Source) MapFault
+unfoldable pub sources_of : List Place → List Variable → Params → Result (List Source) MapFault
 sources_of map variables p = sources_along (source_of map variables p) signals
 
 -- what an answer says of the sources, or of a fault; want of memory is free

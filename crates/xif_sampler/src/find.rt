@@ -2,7 +2,7 @@
 ghost use Rattle.std.specs.Prelude.{◌≡◌, string_bytes, bytes_eq, Ok, Err, IfOk, MatchResult};
 ghost use Rattle.xif_base.specs.Params.{IsInRange};
 ghost use Rattle.xif_signals.specs.Signal.{width_of};
-ghost use Rattle.xif_sampler.specs.Places.{named, has_named, variable_of, is_narrow, bits_named, default_name, source_in, source_of, sources_of, Gives};
+ghost use Rattle.xif_sampler.specs.Places.{named, has_named, variable_of, is_narrow, bits_named, default_name, source_in, source_of, sources_along, sources_of, Gives};
 
 use crate::fault::{MapFail, MapFault};
 use crate::place::{Place, SignalMap};
@@ -22,9 +22,24 @@ pub fn find_sources(
     requires { IsInRange params.now }
     ensures { Gives result (sources_of map.now variables.now params.now) }
 {
+    find_along(alloc, map, variables, params, &Signal::all())
+}
+
+/// The sources of signals, in their order.
+fn find_along(
+    alloc: Global,
+    map: &SignalMap,
+    variables: &[Variable],
+    params: &Params,
+    signals: &[Signal; 29],
+) -> Result<[Source; 29], MapFail>
+    requires { IsInRange params.now }
+    ensures { Gives result
+        (sources_along (source_of map.now variables.now params.now) signals.now) }
+{
     let mut sources = [Source::Fixed(0); 29];
-    for (i, signal) in Signal::all().iter().enumerate() {
-        sources[i] = find_source(alloc, map, variables, params, *signal)?;
+    for i in 0..29 {
+        sources[i] = find_source(alloc, map, variables, params, signals[i])?;
     }
     Ok(sources)
 }
