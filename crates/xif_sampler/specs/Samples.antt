@@ -68,6 +68,10 @@ rises sources h =
 abbrev pub sample_at : List Source → List Item → Option (List Quad)
 sample_at sources h = cond (rises sources h) (Some (map (quad_by (before h)) (drop 1 sources))) None
 
+-- the sample that a time ends an instant with, if it does
+abbrev pub sample_by : List Source → List Item → ℕ → Option (List Quad)
+sample_by sources h t = cond (nat_lt (time_of h) t) (sample_at sources h) None
+
 abbrev pub samples_by : List Source → List Item → List (List Quad)
 samples_by sources items = filter_map (sample_at sources) (instants (reverse items))
 

@@ -1,7 +1,8 @@
 // Where the bits of each signal come from, by a map and the variables of a waveform.
-ghost use Rattle.std.specs.Prelude.{◌≡◌, string_bytes, bytes_eq, Ok, Err, IfOk, MatchResult};
+ghost use Rattle.std.specs.Prelude.{◌≡◌, ◌≤◌, string_bytes, bytes_eq, Ok, Err, IfOk, MatchResult};
 ghost use Rattle.xif_base.specs.Params.{IsInRange};
 ghost use Rattle.xif_signals.specs.Signal.{width_of};
+ghost use Rattle.xif_sampler.specs.Keeping.{bits_taken, AreWithin};
 ghost use Rattle.xif_sampler.specs.Places.{named, has_named, variable_of, is_narrow, bits_named, default_name, source_in, source_of, sources_along, sources_of, Gives};
 
 use crate::fault::{MapFail, MapFault};
@@ -20,7 +21,8 @@ pub fn find_sources(
     params: &Params,
 ) -> Result<[Source; 29], MapFail>
     requires { IsInRange params.now }
-    ensures { Gives result (sources_of map.now variables.now params.now) }
+    ensures found { Gives result (sources_of map.now variables.now params.now) }
+    ensures within { IfOk result (λ sources. AreWithin 64 sources) }
 {
     find_along(alloc, map, variables, params, &Signal::all())
 }
@@ -34,8 +36,9 @@ fn find_along(
     signals: &[Signal; 29],
 ) -> Result<[Source; 29], MapFail>
     requires { IsInRange params.now }
-    ensures { Gives result
+    ensures found { Gives result
         (sources_along (source_of map.now variables.now params.now) signals.now) }
+    ensures within { IfOk result (λ sources. AreWithin 64 sources) }
 {
     let mut sources = [Source::Fixed(0); 29];
     for i in 0..29 {
@@ -52,7 +55,8 @@ fn find_source(
     signal: Signal,
 ) -> Result<Source, MapFail>
     requires { IsInRange params.now }
-    ensures { Gives result (source_of map.now variables.now params.now signal) }
+    ensures found { Gives result (source_of map.now variables.now params.now signal) }
+    ensures within { IfOk result (λ source. bits_taken source ≤ 64) }
 {
     let width = signal.width(params);
     if width == 0 {
@@ -69,7 +73,8 @@ fn find_place(
     width: u8,
     place: &Place,
 ) -> Result<Source, MapFail>
-    ensures { Gives result (source_in variables.now signal width place.now) }
+    ensures found { Gives result (source_in variables.now signal width place.now) }
+    ensures within { IfOk result (λ source. bits_taken source ≤ width) }
 {
     match place {
         Place::Constant(value) => Ok(Source::Fixed(*value)),
@@ -116,7 +121,8 @@ fn find_bits(
     low: u32,
     high: Option<u32>,
 ) -> Result<Source, MapFault>
-    ensures { result ≡ bits_named variables.now signal width name.now low high }
+    ensures found { result ≡ bits_named variables.now signal width name.now low high }
+    ensures within { IfOk result (λ source. bits_taken source ≤ width) }
 {
     let variable = find_variable(variables, signal, name)?;
     if is_too_narrow(variable.size, low, high, width) {

@@ -11,8 +11,11 @@
 mod digits;
 mod fault;
 mod find;
+mod keeping;
 mod place;
+mod sampler;
 mod source;
 
 pub use fault::{MapFail, MapFault};
 pub use place::{Place, SignalMap};
+pub use sampler::Sampler;

@@ -1,0 +1,59 @@
+-- What a sampler keeps of a history: the values that the signals have now, and those from before the instant.
+use Rattle.std.specs.Prelude.{◌≡◌, ◌==◌, ◌&&◌, ◌≤◌, ◌<◌, ℕ, Bool, true, false, cond, List, map, drop, length, slice_index_or, Option, Some, None}
+use Rattle.xif_signals.specs.declared.sample.Quad.{Quad}
+use Rattle.xif_signals.specs.Quad.{known_quad}
+use Rattle.vcd_text.specs.declared.digit.Digit.{Digit}
+use Rattle.vcd_text.specs.declared.item.Item.{Item}
+use Rattle.xif_sampler.specs.declared.source.Source.{Source}
+use Rattle.xif_sampler.specs.declared.source.Source.TheVariants.{Fixed, Bits}
+use Rattle.xif_sampler.specs.Digits.{quad_from}
+use Rattle.xif_sampler.specs.Samples.{quad_by, time_of, before, is_number}
+
+-- what a sampler is seen as
+pub record Sampling : Type 0 where
+  pub sources : List Source
+  pub time : ℕ
+  pub was : List Quad
+  pub now : List Quad
+
+-- A sampler that takes the bits of the signals from these sources stands for a history.
+pub record StandsFor (x : Sampling) (sources : List Source) (h : List Item) : Type 0 where
+  pub same : x.sources ≡ sources
+  pub at : x.time ≡ time_of h
+  pub was : x.was ≡ map (quad_by (before h)) sources
+  pub now : x.now ≡ map (quad_by h) sources
+
+-- ---- the parts of it
+
+abbrev pub source_at : List Source → ℕ → Source
+source_at sources i = slice_index_or sources i (Fixed 0)
+
+-- how many bits are taken
+abbrev pub bits_taken : Source → ℕ
+bits_taken (Fixed value) = 0
+bits_taken (Bits code low width) = width
+
+abbrev pub AreWithin : ℕ → List Source → Type 0
+AreWithin most sources = (i : ℕ) → bits_taken (source_at sources i) ≤ most
+
+-- whether a source has bits of a code
+abbrev pub is_of : ℕ → Source → Bool
+is_of code (Fixed value) = false
+is_of code (Bits c low width) = code == c
+
+-- the codes of the sources are marked
+abbrev pub AreMarked : List Source → List Bool → Type 0
+AreMarked sources reads =
+    (i code : ℕ) → i < length sources → is_of code (source_at sources i) ≡ true →
+    slice_index_or reads code false ≡ true
+
+-- the bits of a signal behind a change
+abbrev pub changed : ℕ → List Digit → Source → Quad → Quad
+changed code digits (Fixed value) q = q
+changed code digits (Bits c low width) q = cond (code == c) (quad_from digits low width) q
+
+-- the sample of an instant, by the values of all signals before it and behind it
+abbrev pub sample_between : List Quad → List Quad → Option (List Quad)
+sample_between was now =
+    cond (is_number 0 (slice_index_or was 0 (known_quad 0)) && is_number 1 (slice_index_or now 0 (known_quad 0)))
+    (Some (drop 1 was)) None
