@@ -4,3 +4,4 @@ pub mod Sources
 pub mod Lists
 pub mod Table
 pub mod History
+pub mod Instants

@@ -4,10 +4,11 @@ use Rattle.xif_signals.specs.declared.sample.Quad.{Quad}
 use Rattle.xif_signals.specs.Quad.{known_quad}
 use Rattle.vcd_text.specs.declared.digit.Digit.{Digit}
 use Rattle.vcd_text.specs.declared.item.Item.{Item}
+use Rattle.vcd_text.specs.declared.item.Item.TheVariants.{Time, Change}
 use Rattle.xif_sampler.specs.declared.source.Source.{Source}
 use Rattle.xif_sampler.specs.declared.source.Source.TheVariants.{Fixed, Bits}
 use Rattle.xif_sampler.specs.Digits.{quad_from}
-use Rattle.xif_sampler.specs.Samples.{quad_by, time_of, before, is_number}
+use Rattle.xif_sampler.specs.Samples.{quad_by, time_of, before, is_number, sample_by}
 
 -- what a sampler is seen as
 pub record Sampling : Type 0 where
@@ -57,3 +58,8 @@ abbrev pub sample_between : List Quad → List Quad → Option (List Quad)
 sample_between was now =
     cond (is_number 0 (slice_index_or was 0 (known_quad 0)) && is_number 1 (slice_index_or now 0 (known_quad 0)))
     (Some (drop 1 was)) None
+
+-- the sample that an item ends an instant with, if it does
+abbrev pub answer_to : List Source → List Item → Item → Option (List Quad)
+answer_to sources h (Time t) = sample_by sources h t
+answer_to sources h (Change code digits) = None

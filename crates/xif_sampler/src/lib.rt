@@ -14,8 +14,10 @@ mod find;
 mod keeping;
 mod place;
 mod sampler;
+mod items;
 mod source;
 
 pub use fault::{MapFail, MapFault};
 pub use place::{Place, SignalMap};
 pub use sampler::Sampler;
+pub use items::sample_items;
