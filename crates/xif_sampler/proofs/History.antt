@@ -8,13 +8,10 @@ use Rattle.vcd_text.specs.declared.item.Item.{Item}
 use Rattle.vcd_text.specs.declared.item.Item.TheVariants.{Change}
 use Rattle.xif_sampler.specs.declared.source.Source.{Source}
 use Rattle.xif_sampler.specs.declared.source.Source.TheVariants.{Fixed, Bits}
+use Rattle.xif_sampler.specs.declared.source.Readers.{Readers}
 use Rattle.xif_sampler.specs.Digits.{quad_from}
 use Rattle.xif_sampler.specs.Samples.{quad_by, last_digits}
-use Rattle.xif_sampler.specs.Keeping.{source_at, is_of, changed, AreMarked}
-
-same_quad : (s : Source) (h : List Item) (code : ℕ) (ds : List Digit) → is_of code s ≡ false → quad_by (Change code ds ∷ h) s ≡ quad_by h s
-same_quad (Fixed n) h code ds e = refl
-same_quad (Bits c low width) h code ds e = rw e refl
+use Rattle.xif_sampler.specs.Steps.{source_at, is_of, changed, IsAmong, Covers}
 
 changed_by : (b : Bool) (ds last : List Digit) (low width : ℕ) → cond b (quad_from ds low width) (quad_from last low width) ≡ quad_from (cond b ds last) low width
 changed_by true ds last low width = refl
@@ -23,14 +20,6 @@ changed_by false ds last low width = refl
 changed_is : (s : Source) (h : List Item) (code : ℕ) (ds : List Digit) → changed code ds s (quad_by h s) ≡ quad_by (Change code ds ∷ h) s
 changed_is (Fixed n) h code ds = refl
 changed_is (Bits c low width) h code ds = changed_by (code == c) ds (last_digits c h) low width
-
--- a code that no signal takes bits of
-pub unread : (sources : List Source) (h : List Item) (code : ℕ) (ds : List Digit) → ((i : ℕ) → i < length sources → is_of code (source_at sources i) ≡ false)
-    → map (quad_by h) sources ≡ map (quad_by (Change code ds ∷ h)) sources
-unread [] h code ds p = refl
-unread (s ∷ ss) h code ds p =
-    ap (λ q. q ∷ map (quad_by h) ss) (sym (same_quad s h code ds (p 0 (omega arith))))
-    ∙ ap (λ qs. quad_by (Change code ds ∷ h) s ∷ qs) (unread ss h code ds (λ i k. p (suc i) (omega arith)))
 
 -- each value is brought up to date
 pub read : (sources : List Source) (h : List Item) (code : ℕ) (ds : List Digit) (old new : List Quad) → length sources ≡ 29 → length new ≡ 29 → old ≡ map (quad_by h) sources
@@ -47,14 +36,17 @@ read sources h code ds old new m n e p =
       ∙ changed_is (source_at sources k) h code ds
       ∙ sym (get_or-map f sources k (Fixed 0) (known_quad 0) within))
 
-unmarked_by : (sources : List Source) (reads : List Bool) (code i : ℕ) (b : Bool) → is_of code (source_at sources i) ≡ b → AreMarked sources reads → get_or reads code false ≡ false → i < length sources
-    → is_of code (source_at sources i) ≡ false
-unmarked_by sources reads code i false e p h inside = e
-unmarked_by sources reads code i true e p h inside =
-    let marked : get_or reads code false ≡ true = p i code inside e in
-    absurd (cc)
+-- a signal that takes no bits of a code keeps its value
+other_by : (s : Source) (code : ℕ) (ds : List Digit) (q : Quad) → is_of code s ≡ false → changed code ds s q ≡ q
+other_by (Fixed n) code ds q e = refl
+other_by (Bits c low width) code ds q e = rw e refl
 
--- a code that isn't marked is that of no source
-pub unmarked : (sources : List Source) (reads : List Bool) (code : ℕ) → AreMarked sources reads → get_or reads code false ≡ false → (i : ℕ) → i < length sources
+uncovered_by : (r : Readers) (sources : List Source) (code i : ℕ) (b : Bool) → is_of code (source_at sources i) ≡ b → Covers r sources code → i < length sources → (IsAmong r i → ⊥)
     → is_of code (source_at sources i) ≡ false
-unmarked sources reads code p h i inside = unmarked_by sources reads code i (is_of code (source_at sources i)) refl p h inside
+uncovered_by r sources code i false e p inside n = e
+uncovered_by r sources code i true e p inside n = absurd (n (p i inside e))
+
+-- so does one that isn't among the readers
+pub uncovered : (r : Readers) (sources : List Source) (code i : ℕ) (ds : List Digit) (q : Quad) → Covers r sources code → i < length sources → (IsAmong r i → ⊥) → changed code ds (source_at sources i) q ≡ q
+uncovered r sources code i ds q p inside n =
+    other_by (source_at sources i) code ds q (uncovered_by r sources code i (is_of code (source_at sources i)) refl p inside n)

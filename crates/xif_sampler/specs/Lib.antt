@@ -2,3 +2,4 @@ pub mod Digits
 pub mod Places
 pub mod Samples
 pub mod Keeping
+pub mod Steps

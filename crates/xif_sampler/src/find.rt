@@ -2,7 +2,7 @@
 ghost use Rattle.std.specs.Prelude.{◌≡◌, ◌≤◌, string_bytes, bytes_eq, Ok, Err, IfOk, MatchResult};
 ghost use Rattle.xif_base.specs.Params.{IsInRange};
 ghost use Rattle.xif_signals.specs.Signal.{width_of};
-ghost use Rattle.xif_sampler.specs.Keeping.{bits_taken, AreWithin};
+ghost use Rattle.xif_sampler.specs.Steps.{bits_taken, AreWithin};
 ghost use Rattle.xif_sampler.specs.Places.{named, has_named, variable_of, is_narrow, bits_named, default_name, source_in, source_of, sources_along, sources_of, Gives};
 
 use crate::fault::{MapFail, MapFault};

@@ -7,7 +7,8 @@ ghost use Rattle.xif_sampler.specs.declared.source.Source.{Source};
 ghost use Rattle.xif_sampler.specs.declared.fault.MapFault.{MapFault};
 ghost use Rattle.xif_sampler.specs.Places.{sources_of};
 ghost use Rattle.xif_sampler.specs.Samples.{samples_by, samples_of};
-ghost use Rattle.xif_sampler.specs.Keeping.{StandsFor, answer_to};
+ghost use Rattle.xif_sampler.specs.Keeping.{StandsFor};
+ghost use Rattle.xif_sampler.specs.Steps.{answer_to};
 
 use crate::fault::MapFail;
 use crate::place::SignalMap;

@@ -7,13 +7,14 @@ ghost use Rattle.xif_sampler.specs.declared.source.Source.{Source};
 ghost use Rattle.xif_sampler.specs.declared.fault.MapFault.{MapFault};
 ghost use Rattle.xif_sampler.specs.Places.{sources_of};
 ghost use Rattle.xif_sampler.specs.Samples.{is_number, sample_at, sample_by};
-ghost use Rattle.xif_sampler.specs.Keeping.{StandsFor, sample_between};
+ghost use Rattle.xif_sampler.specs.Keeping.{StandsFor};
+ghost use Rattle.xif_sampler.specs.Steps.{sample_between};
 
 use crate::fault::MapFail;
 use crate::find::find_sources;
-use crate::keeping::{change_quads, first_quads, is_read, marks};
+use crate::keeping::{change_quads, find_readers, first_quads, readers_of};
 use crate::place::SignalMap;
-use crate::source::Source;
+use crate::source::{Readers, Source};
 use std::alloc::Global;
 use std::marker::Model;
 use vcd_text::{Declarations, Digits};
@@ -29,8 +30,8 @@ use xif_signals::{Quad, Sample, Signal};
 #[derive(Debug, Drop)]
 pub struct Sampler {
     sources: [Source; 29],
-    /// For each code whether a signal takes bits of it.
-    reads: Vec<bool>,
+    /// The readers of each code.
+    readers: Vec<Readers>,
     /// The time of this instant.
     time: u64,
     /// The values of the signals before this instant.
@@ -39,13 +40,14 @@ pub struct Sampler {
 }
 
 impl Model for Sampler {
-    ghost use Rattle.xif_sampler.specs.Keeping.{Sampling, AreWithin, AreMarked};
+    ghost use Rattle.xif_sampler.specs.Keeping.{Sampling};
+    ghost use Rattle.xif_sampler.specs.Steps.{AreWithin, AreReaders};
 
     ghost Value = { Sampling };
 
     ghost view = { λ s. record { sources = s.sources; time = s.time; was = s.was; now = s.now } };
 
-    ghost invariant = { λ s. AreWithin 64 s.sources × AreMarked s.sources s.reads.items };
+    ghost invariant = { λ s. AreWithin 64 s.sources × AreReaders s.sources s.readers.items };
 }
 
 impl Sampler {
@@ -65,11 +67,11 @@ impl Sampler {
             sources_of map.now declarations.now params.now ≡ Err fault) }
     {
         let sources = find_sources(alloc, map, declarations.as_slice(), params)?;
-        let reads = marks(alloc, &sources)?;
+        let readers = readers_of(alloc, &sources)?;
         let quads = first_quads(&sources);
         Ok(Sampler {
             sources,
-            reads,
+            readers,
             time: 0,
             was: quads,
             now: quads,
@@ -81,9 +83,8 @@ impl Sampler {
         ensures { (sources : List Source) (h : List Item) → StandsFor self.old sources h →
             StandsFor self.new sources (Change code digits.now ∷ h) }
     {
-        if is_read(&self.reads, code) {
-            change_quads(&mut self.now, &self.sources, code, digits.as_slice());
-        }
+        let readers = find_readers(&self.readers, code);
+        change_quads(&mut self.now, &self.sources, readers, code, digits.as_slice());
     }
 
     /// Takes a time. If it is greater than the last one, it ends the instant, and the answer is the

@@ -9,3 +9,14 @@ pub enum Source {
     /// digit as 0.
     Bits { code: u32, low: u32, width: u8 },
 }
+
+/// The signals that take bits of a code are among those with the numbers `from` to below `to`.
+#[derive(Clone, Copy, Debug, PartialEq, Eq)]
+pub struct Readers {
+    pub from: u8,
+    pub to: u8,
+}
+
+impl Readers {
+    pub const NONE: Readers = Readers { from: 29, to: 0 };
+}

@@ -1,6 +1,6 @@
 use Rattle.std.proofs.Common.{◌≡◌, length, take, Ok}
 use Rattle.xif_sampler.specs.Places.{source_of, sources_along}
-use Rattle.xif_sampler.specs.Keeping.{AreWithin}
+use Rattle.xif_sampler.specs.Steps.{AreWithin}
 use Rattle.xif_sampler.proofs.find.find_along.Given as goal
 
 abbrev pub invariant-loop-i : goal.invariant-loop-i
