@@ -1,0 +1,5 @@
+pub mod Digits
+pub mod Places
+pub mod Samples
+pub mod Keeping
+pub mod Steps
