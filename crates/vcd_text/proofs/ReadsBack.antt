@@ -39,7 +39,7 @@ reads_back p buses r fits l =
     let e : read_whole text ≡ said s (written_items p buses) = says-whole (declaring [] [] []) s text (written_items p buses) (says-text p buses r fits l) in
     ap (λ (x : Read). ends x.items x.state (length text)) e
 
-all_by : {X : Type 0} (P : X → Type 0) (xs : List X) → All P xs → AllByRecursion P xs
+pub all_by : {X : Type 0} (P : X → Type 0) (xs : List X) → All P xs → AllByRecursion P xs
 all_by P [] h = tt
 all_by P (x ∷ xs) h = (All-head P x xs h, all_by P xs (All-tail P x xs h))
 

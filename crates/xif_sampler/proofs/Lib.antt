@@ -5,3 +5,7 @@ pub mod Lists
 pub mod Table
 pub mod History
 pub mod Instants
+pub mod WrittenDigits
+pub mod WrittenSources
+pub mod WrittenSamples
+pub mod WrittenLaw

@@ -3,3 +3,4 @@ pub mod Places
 pub mod Samples
 pub mod Keeping
 pub mod Steps
+pub mod Written
