@@ -11,13 +11,15 @@
 mod digits;
 mod fault;
 mod find;
+mod items;
 mod keeping;
 mod place;
 mod sampler;
-mod items;
 mod source;
+#[cfg(test)]
+mod tests;
 
 pub use fault::{MapFail, MapFault};
+pub use items::sample_items;
 pub use place::{Place, SignalMap};
 pub use sampler::Sampler;
-pub use items::sample_items;
