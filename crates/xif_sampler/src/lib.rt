@@ -12,12 +12,14 @@ mod digits;
 mod fault;
 mod find;
 mod keeping;
+mod law;
 mod place;
 mod sampler;
 mod items;
 mod source;
 
 pub use fault::{MapFail, MapFault};
+pub use law::written_buses_sample_back;
 pub use place::{Place, SignalMap};
 pub use sampler::Sampler;
 pub use items::sample_items;
