@@ -18,6 +18,8 @@ mod scopes;
 mod state;
 mod step;
 mod stop;
+#[cfg(test)]
+mod tests;
 mod token;
 mod word;
 
