@@ -3,7 +3,7 @@
 ghost use Rattle.std.specs.Prelude.{◌<◌, ◌≤◌, ◌^◌, length};
 
 use super::*;
-use std::alloc::Global;
+use std::alloc::{AllocError, Global};
 use std::process::Abort;
 use std::test::Fail;
 
@@ -66,6 +66,10 @@ const LIMITS: [(&str, &str, usize, &str, Outcome); 4] = [
     ("", "$scope module m $end ", 65, "$enddefinitions $end\n", Some((1344, VcdCause::BadToken))),
 ];
 
+fn fault(at: u64, cause: VcdCause) -> Result<(), FeedFail> {
+    Err(FeedFail::Vcd(VcdFault { at, cause }))
+}
+
 /// Reads a text in pieces of a length.
 fn read(alloc: Global, text: &[u8], len: usize) -> Result<(), FeedFail>
     requires few { length text.now < 2 ^ 16 }
@@ -86,7 +90,7 @@ fn outcome_is(rt: &impl Abort, alloc: Global, text: &str, want: Outcome) {
     assert!(rt; text.len() < 10_000);
     let want = match want {
         None => Ok(()),
-        Some((at, cause)) => Err(FeedFail::Vcd(VcdFault { at, cause })),
+        Some((at, cause)) => fault(at, cause),
     };
     for len in [10_000, 1, 7] {
         assert_eq!(rt; read(alloc, text.as_bytes(), len), want, "{len} {text:?}");
@@ -110,5 +114,113 @@ fn the_first_fault_is_told_whatever_the_pieces(rt: HostRuntime) -> Result<(), Fa
         text.push_str(tail)?;
         outcome_is(&rt, rt.alloc(), text.as_str(), want);
     }
+    Ok(())
+}
+
+const NESTED: &str = "$date today $end
+$version sim $end
+$timescale 1ps $end
+$scope module top $end
+$var wire 1 ! clk $end
+$var wire 1 \" rst_n $end
+$scope module xif $end
+$var wire 1 # issue_valid $end
+$var wire 1 $ issue_ready $end
+$var wire 36 % issue_req [35:0] $end
+$var wire 4 & issue_resp [3:0] $end
+$upscope $end
+$upscope $end
+$enddefinitions $end
+#0
+$dumpvars
+x!
+0\"
+x#
+x$
+bx %
+bx &
+$end
+0!
+#5
+1!
+$comment reset ends $end
+1\"
+0#
+0$
+#10
+0!
+#15
+1!
+1#
+1$
+b1110000000010110010 %
+b0 &
+#20
+0!
+#25
+1!
+b100 &
+#30
+0!
+";
+
+const NESTED_VARIABLES: &str = "top.clk=0:1 top.rst_n=1:1 top.xif.issue_valid=2:1 top.xif.issue_ready=3:1 top.xif.issue_req=4:36 top.xif.issue_resp=5:4 ";
+
+const NESTED_ITEMS: &str = "#0 x@0 0@1 x@2 x@3 x@4 x@5 0@0 #5 1@0 1@1 0@2 0@3 #10 0@0 #15 1@0 1@2 1@3 1110000000010110010@4 0@5 #20 0@0 #25 1@0 100@5 #30 0@0 ";
+
+/// Writes variables with their codes and sizes.
+fn variables_text(alloc: Global, declarations: Option<&Declarations>) -> Result<String, AllocError> {
+    let mut out = String::new(alloc);
+    if let Some(declarations) = declarations {
+        for variable in declarations.as_slice() {
+            write!(out, "{}={}:{} ", variable.name.as_str(), variable.code, variable.size)?;
+        }
+    }
+    Ok(out)
+}
+
+fn character(digit: Digit) -> char {
+    match digit {
+        Digit::Zero => '0',
+        Digit::One => '1',
+        Digit::X => 'x',
+        Digit::Z => 'z',
+    }
+}
+
+/// Writes the items of a reader, which are few.
+fn items_text(alloc: Global, reader: &mut Reader) -> Result<String, AllocError> {
+    let mut out = String::new(alloc);
+    for _ in 0..100 {
+        match reader.take() {
+            Some(Item::Time(time)) => write!(out, "#{time} ")?,
+            Some(Item::Change { code, digits }) => {
+                for digit in digits.as_slice() {
+                    out.push(character(*digit))?;
+                }
+                write!(out, "@{code} ")?;
+            }
+            None => return Ok(out),
+        }
+    }
+    Ok(out)
+}
+
+#[test]
+fn variables_and_items_come_in_order(rt: HostRuntime) -> Result<(), Fail> {
+    let mut reader = Reader::new(rt.alloc());
+    let (front, back) = NESTED.as_bytes().split_at(100);
+    assert_eq!(rt; reader.feed(front), Ok(()));
+    assert!(rt; reader.declarations().is_none());
+    assert_eq!(rt; reader.feed(back), Ok(()));
+    let variables = variables_text(rt.alloc(), reader.declarations())?;
+    assert_eq!(rt; variables.as_str(), NESTED_VARIABLES);
+    assert_eq!(rt; reader.close(), Ok(()));
+    let items = items_text(rt.alloc(), &mut reader)?;
+    assert_eq!(rt; items.as_str(), NESTED_ITEMS);
+    assert!(rt; reader.take().is_none());
+    // A name is text.
+    assert_eq!(rt; read(rt.alloc(), b"$scope module \xff $end", 3), fault(0, VcdCause::BadToken));
+    assert_eq!(rt; read(rt.alloc(), b"$var wire 1 ! \xc3( $end", 3), fault(0, VcdCause::BadVar));
     Ok(())
 }
