@@ -12,6 +12,7 @@ mod fault;
 mod item;
 mod keyword;
 mod law;
+mod laws;
 mod lines;
 mod reader;
 mod scanner;
@@ -23,6 +24,8 @@ mod token;
 mod word;
 mod writer;
 #[cfg(test)]
+mod tests;
+#[cfg(test)]
 mod writer_tests;
 
 pub use declaration::{Declarations, Variable};
@@ -30,5 +33,6 @@ pub use digit::{Digit, Digits};
 pub use fault::{FeedFail, VcdCause, VcdFault};
 pub use item::Item;
 pub use law::written_texts_read_back;
+pub use laws::{fault_law, reading_law};
 pub use reader::Reader;
 pub use writer::Writer;
