@@ -85,7 +85,7 @@ bits_split f ds low (suc n) m =
     let above = bits_from f ds (low + suc n) m in
     let place : low + 1 + n ≡ low + suc n = omega arith in
     let rest : bits_from f ds (low + 1) (n + m) ≡ bits_from f ds (low + 1) n + 2 ^ n * above =
-        bits_split f ds (low + 1) n m ∙ ap (λ l. bits_from f ds (low + 1) n + 2 ^ n * bits_from f ds l m) place in
+    bits_split f ds (low + 1) n m ∙ ap (λ l. bits_from f ds (low + 1) n + 2 ^ n * bits_from f ds l m) place in
     let twice : 2 ^ suc n * above ≡ 2 * (2 ^ n * above) = ap (λ k. k * above) (pow-succ' 2 n) ∙ mul_assoc 2 (2 ^ n) above in
     rw count (omega (arith, rest, twice))
 

@@ -29,12 +29,12 @@ read sources h code ds old new m n e p =
     let f : Source → Quad = quad_by (Change code ds ∷ h) in
     let count : length new ≡ length (map f sources) = n ∙ sym m ∙ sym (length-map sources f) in
     ext_get_or (known_quad 0) new (map f sources) count (λ k inside.
-      let low : k < 29 = omega arith in
-      let within : k < length sources = omega arith in
-      p k low ∙ ap (λ l. changed code ds (source_at sources k) (get_or l k (known_quad 0))) e
-      ∙ ap (changed code ds (source_at sources k)) (get_or-map (quad_by h) sources k (Fixed 0) (known_quad 0) within)
-      ∙ changed_is (source_at sources k) h code ds
-      ∙ sym (get_or-map f sources k (Fixed 0) (known_quad 0) within))
+    let low : k < 29 = omega arith in
+    let within : k < length sources = omega arith in
+    p k low ∙ ap (λ l. changed code ds (source_at sources k) (get_or l k (known_quad 0))) e
+    ∙ ap (changed code ds (source_at sources k)) (get_or-map (quad_by h) sources k (Fixed 0) (known_quad 0) within)
+    ∙ changed_is (source_at sources k) h code ds
+    ∙ sym (get_or-map f sources k (Fixed 0) (known_quad 0) within))
 
 -- a signal that takes no bits of a code keeps its value
 other_by : (s : Source) (code : ℕ) (ds : List Digit) (q : Quad) → is_of code s ≡ false → changed code ds s q ≡ q

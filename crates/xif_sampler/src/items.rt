@@ -38,7 +38,11 @@ pub fn sample_items(
     Ok(sample_all(alloc, sampler, items)?)
 }
 
-fn sample_all(alloc: Global, mut sampler: Sampler, items: &[Item]) -> Result<Vec<Sample>, AllocError>
+fn sample_all(
+    alloc: Global,
+    mut sampler: Sampler,
+    items: &[Item],
+) -> Result<Vec<Sample>, AllocError>
     ensures { (sources : List Source) → StandsFor sampler sources [] →
         IfOk result (λ samples. samples.items ≡ samples_by sources items.now) }
 {

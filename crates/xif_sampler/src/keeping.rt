@@ -22,11 +22,7 @@ pub fn readers_of(alloc: Global, sources: &[Source; 29]) -> Result<Vec<Readers>,
 }
 
 /// Adds the signal of a number, which has this source.
-fn add_reader(
-    readers: &mut Vec<Readers>,
-    source: Source,
-    signal: u8,
-) -> Result<(), AllocError>
+fn add_reader(readers: &mut Vec<Readers>, source: Source, signal: u8) -> Result<(), AllocError>
     requires { signal < 29 }
     ensures added { OnOk result ((code : ℕ) → is_of code source ≡ true →
         IsAmong (readers_at readers.new.items code) signal) }
@@ -65,7 +61,10 @@ pub fn first_quads(sources: &[Source; 29]) -> [Quad; 29]
     requires { AreWithin 64 sources.now }
     ensures { result ≡ map (quad_by []) sources.now }
 {
-    let mut quads = [Quad { value: 0, unknown: 0 }; 29];
+    let mut quads = [Quad {
+        value: 0,
+        unknown: 0,
+    }; 29];
     for i in 0..29 {
         quads[i] = first_quad(sources[i]);
     }
@@ -107,7 +106,11 @@ fn changed_quad(source: Source, quad: Quad, code: u32, digits: &[Digit]) -> Quad
     ensures { result ≡ changed code digits.now source quad }
 {
     match source {
-        Source::Bits { code: read, low, width } if code == read => quad_of(digits, low, width),
+        Source::Bits {
+            code: read,
+            low,
+            width,
+        } if code == read => quad_of(digits, low, width),
         _ => quad,
     }
 }

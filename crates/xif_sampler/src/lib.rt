@@ -11,15 +11,17 @@
 mod digits;
 mod fault;
 mod find;
-mod keeping;
-mod law;
-mod place;
-mod sampler;
 mod items;
+mod keeping;
+mod place;
+mod read_back;
+mod sampler;
 mod source;
+#[cfg(test)]
+mod tests;
 
 pub use fault::{MapFail, MapFault};
-pub use law::written_buses_sample_back;
-pub use place::{Place, SignalMap};
-pub use sampler::Sampler;
 pub use items::sample_items;
+pub use place::{Place, SignalMap};
+pub use read_back::written_buses_sample_back;
+pub use sampler::Sampler;

@@ -84,7 +84,13 @@ impl Sampler {
             StandsFor self.new sources (Change code digits.now ∷ h) }
     {
         let readers = find_readers(&self.readers, code);
-        change_quads(&mut self.now, &self.sources, readers, code, digits.as_slice());
+        change_quads(
+            &mut self.now,
+            &self.sources,
+            readers,
+            code,
+            digits.as_slice(),
+        );
     }
 
     /// Takes a time. If it is greater than the last one, it ends the instant, and the answer is the

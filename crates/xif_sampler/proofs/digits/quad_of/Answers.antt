@@ -29,4 +29,4 @@ returns c =
     let start = c.saturating_sub-start.result in
     ap (λ n. record { value = c.written-quad.result.value; unknown = n }) (unknown_is c)
     ∙ ap (λ n. record { value = n; unknown = bits_from unknown_of ds c.args.low c.args.width })
-      (ap (λ (q : Quad). q.value) c.written-quad.ensures ∙ sym (value_filled ds c.args.low c.args.width start end (omega arith) (omega arith)))
+    (ap (λ (q : Quad). q.value) c.written-quad.ensures ∙ sym (value_filled ds c.args.low c.args.width start end (omega arith) (omega arith)))

@@ -12,4 +12,4 @@ returns-then-first-variable c =
     let is_named : bytes_eq c.variable-item.result.name name ≡ true = sym c.has_name.ensures ∙ c.if-has_name.true in
     ap (variable_of c.args.signal) (named_whole name vs i c.variable-item.result (omega arith) c.variable-item.is is_named)
     ∙ other_meant c.args.signal (named name (take i vs)) c.in-Some.first.now c.variable-item.result (named name (drop (i + 1) vs))
-      (c.loop-variable.invariant ∙ ap (λ o. so_far c.args.signal (option_map (λ v. v.now) o)) c.in-Some.is) c.if-first-variable.true
+    (c.loop-variable.invariant ∙ ap (λ o. so_far c.args.signal (option_map (λ v. v.now) o)) c.in-Some.is) c.if-first-variable.true

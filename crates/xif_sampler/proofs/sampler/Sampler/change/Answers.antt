@@ -14,7 +14,7 @@ returns c = λ sources h p.
     let inside = c.self.inside in
     let f = quad_by (Change code c.as_slice.result.now ∷ h) in
     let now : quads ≡ map f inside.sources =
-        read inside.sources h code c.as_slice.result.now inside.now quads (omega arith) c.change_quads.ensures.count (s.now ∙ ap (map (quad_by h)) (sym s.same)) c.change_quads.ensures.each in
+    read inside.sources h code c.as_slice.result.now inside.now quads (omega arith) c.change_quads.ensures.count (s.now ∙ ap (map (quad_by h)) (sym s.same)) c.change_quads.ensures.each in
     record {
       same = s.same;
       at = s.at;
