@@ -1,0 +1,17 @@
+pub mod CodeTable
+pub mod Following
+pub mod Front
+pub mod Sound
+pub mod SoundReading
+pub mod Standing
+pub mod Texts
+pub mod WellFormed
+pub mod Pieces
+pub mod Fitting
+pub mod Says
+pub mod Numerals
+pub mod SaidLines
+pub mod Table
+pub mod SaidHeader
+pub mod SaidBody
+pub mod ReadsBack

@@ -1,0 +1,12 @@
+pub mod Words
+pub mod Tokens
+pub mod Codes
+pub mod Grammar
+pub mod Reading
+pub mod Reader
+pub mod Scanner
+pub mod Sizes
+pub mod Sound
+pub mod Steps
+pub mod Written
+pub mod Writing

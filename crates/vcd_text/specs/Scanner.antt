@@ -1,0 +1,39 @@
+-- For which text a scanner stands.
+use Rattle.std.specs.Prelude.{◌≡◌, ◌+◌, ◌≤◌, ℕ, Bool, cond, List, [], ◌∷◌, ◌++◌, length, Option, Some, None, Result, Ok, Err}
+use Rattle.std.specs.List.{fold}
+use Rattle.vcd_text.specs.declared.fault.VcdFault.{VcdFault}
+use Rattle.vcd_text.specs.declared.item.Item.{Item}
+use Rattle.vcd_text.specs.declared.scanner.Scanner.{Scanner}
+use Rattle.vcd_text.specs.declared.state.State.{State}
+use Rattle.vcd_text.specs.Words.{is_white}
+use Rattle.vcd_text.specs.Tokens.{rest, token_before}
+use Rattle.vcd_text.specs.Reading.{Read, go, declared_by, read_so_far}
+use Rattle.vcd_text.specs.Reader.{Progress}
+
+abbrev pub outcome : State → Option VcdFault → Result State VcdFault
+outcome s None = Ok s
+outcome s (Some f) = Err f
+
+-- what a scanner read, behind these items
+abbrev pub read_by : Scanner → List Item → Read
+read_by s taken = record { items = taken ++ s.items.items; variables = declared_by s.state; state = outcome s.state s.fault }
+
+-- the scanner took in this text, and these items were taken from it
+pub record Follows (s : Scanner) (text : List ℕ) (taken : List Item) : Type 0 where
+  pub read : read_by s taken ≡ read_so_far text
+  pub size : s.fault ≡ None → s.size ≡ length text
+  pub run : s.fault ≡ None → s.run.items ≡ rest [] text
+
+-- what a byte does where there is no fault before it
+pub record Steps (old new : Scanner) (b : ℕ) : Type 0 where
+  pub size : new.size ≡ old.size + 1
+  pub run : new.run.items ≡ cond (is_white b) [] (old.run.items ++ b ∷ [])
+  pub read : (taken : List Item) → read_by new taken ≡ cond (is_white b) (fold go (read_by old taken) (token_before old.size old.run.items)) (read_by old taken)
+
+-- each code took a byte at least, and so does the token that is open
+abbrev pub HasRoom : Scanner → Type 0
+HasRoom s = length s.state.codes + length s.run.items ≤ s.size
+
+-- what a reader over a scanner holds
+abbrev pub progress_of : Scanner → Bool → Bool → Progress
+progress_of s has_failed is_closed = record { size = s.size; run = s.run.items; read = read_by s []; has_failed = has_failed; is_closed = is_closed }

@@ -1,0 +1,19 @@
+-- What the code's step answers.
+use Rattle.std.specs.Prelude.{⊤, ◌≡◌, ◌≤◌, ◌+◌, length, Option, Some, None, Result, Ok, Err}
+use Rattle.vcd_text.specs.declared.item.Item.{Item}
+use Rattle.vcd_text.specs.declared.state.State.{State}
+use Rattle.vcd_text.specs.declared.stop.Stop.{Stop}
+use Rattle.vcd_text.specs.declared.stop.Stop.TheVariants.{NoMemory, Fault}
+use Rattle.vcd_text.specs.Grammar.{Step}
+
+-- nothing was declared
+pub record SameDeclared (old new : State) : Type 0 where
+  pub codes : new.codes ≡ old.codes
+  pub variables : new.variables ≡ old.variables
+  pub is_declared : new.is_declared ≡ old.is_declared
+
+-- the state after an answer, which is what the definition gives but for want of memory
+abbrev pub Gives : State → State → Result (Option Item) Stop → Step → Type 0
+Gives old new (Ok item) given = (given ≡ Ok (new, item)) × (length new.codes ≤ length old.codes + 1)
+Gives old new (Err NoMemory) given = ⊤
+Gives old new (Err (Fault f)) given = (given ≡ Err f) × SameDeclared old new

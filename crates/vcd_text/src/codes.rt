@@ -1,0 +1,65 @@
+// Identifier codes and their sizes.
+ghost use Rattle.std.specs.Prelude.{◌≡◌, ◌<◌, ◌≤◌, ◌^◌, ◌++◌, [], ◌∷◌, None, length, OnOk, OnErr};
+ghost use Rattle.vcd_text.specs.Codes.{code_from};
+
+use indexmap::IndexMap;
+use std::alloc::Global;
+use std::marker::Model;
+use xif_base::NoMemory;
+
+/// The codes that are declared, each with its size in bits, by first declaration. The number of a code is
+/// its place among them.
+#[derive(Drop)]
+pub struct Codes {
+    sizes: IndexMap<Vec<u8>, u32>,
+}
+
+impl Model for Codes {
+    ghost use Rattle.std.specs.Prelude.{List, map, length, ◌≤◌, ◌^◌};
+    ghost use Rattle.vcd_text.specs.Codes.{Code};
+
+    ghost Value = { List Code };
+
+    ghost view = { λ c. map (λ e. record { text = e.0.items; size = e.1 }) c.sizes.entries };
+
+    ghost invariant = { λ c. length c.sizes.entries ≤ 2 ^ 32 };
+}
+
+impl Codes {
+    pub fn new(alloc: Global) -> Codes
+        ensures { result ≡ [] }
+    {
+        Codes {
+            sizes: IndexMap::new(alloc),
+        }
+    }
+
+    /// The number and the size of a code.
+    pub fn find(&self, text: &[u8]) -> Option<(u32, u32)>
+        ensures { result ≡ code_from 0 text.now self.now }
+    {
+        match self.sizes.get_full(text) {
+            Some((number, _, size)) => Some((number as u32, *size)),
+            None => None,
+        }
+    }
+
+    /// The number that a new code has.
+    pub fn next(&self) -> u32
+        requires { length self.now < 2 ^ 32 }
+        ensures { result ≡ length self.now }
+    {
+        self.sizes.len() as u32
+    }
+
+    /// Adds a code.
+    pub fn push(&mut self, alloc: Global, text: &[u8], size: u32) -> Result<(), NoMemory>
+        requires room { length self.old < 2 ^ 32 }
+        requires new { code_from 0 text.now self.old ≡ None }
+        ensures ok { OnOk result (self.new ≡ self.old ++ record { text = text.now; size = size } ∷ []) }
+        ensures err { OnErr result (self.new ≡ self.old) }
+    {
+        self.sizes.insert(Vec::from_slice(alloc, text)?, size)?;
+        Ok(())
+    }
+}

@@ -1,0 +1,70 @@
+// The digits of a value, and a value as a list of them.
+ghost use Rattle.std.specs.Prelude.{◌≡◌, ◌<◌, ◌++◌, [], ◌∷◌, Some, length, slice_get, OnOk, OnErr};
+
+use std::alloc::Global;
+use std::marker::Model;
+use xif_base::NoMemory;
+
+/// One of the four values of a bit (IEEE 1364-2005, 18.2.2).
+#[derive(Clone, Copy, Debug, PartialEq, Eq)]
+pub enum Digit {
+    Zero,
+    One,
+    /// Unknown.
+    X,
+    /// High impedance.
+    Z,
+}
+
+/// The digits of a value as they are written, the leftmost first.
+#[derive(Debug, Drop)]
+pub struct Digits {
+    items: Vec<Digit>,
+}
+
+impl Model for Digits {
+    ghost use Rattle.std.specs.Prelude.{List};
+    ghost use Rattle.vcd_text.specs.declared.digit.Digit.{Digit};
+
+    ghost Value = { List Digit };
+
+    ghost view = { λ d. d.items.items };
+}
+
+impl Digits {
+    pub fn new(alloc: Global) -> Digits
+        ensures { result ≡ [] }
+    {
+        Digits {
+            items: Vec::new(alloc),
+        }
+    }
+
+    /// Adds a digit at the right.
+    pub fn push(&mut self, digit: Digit) -> Result<(), NoMemory>
+        ensures ok { OnOk result (self.new ≡ self.old ++ digit ∷ []) }
+        ensures err { OnErr result (self.new ≡ self.old) }
+    {
+        self.items.push(digit)?;
+        Ok(())
+    }
+
+    pub fn len(&self) -> usize
+        ensures { result ≡ length self.now }
+    {
+        self.items.len()
+    }
+
+    pub fn get(&self, i: usize) -> &Digit
+        requires { i < length self.now }
+        ensures { slice_get self.now i ≡ Some result.now }
+    {
+        &self.items[i]
+    }
+
+    pub fn as_slice(&self) -> &[Digit]
+        ensures { result.now ≡ self.now }
+    {
+        &self.items
+    }
+}

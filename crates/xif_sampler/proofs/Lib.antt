@@ -1,0 +1,11 @@
+pub mod Bits
+pub mod Named
+pub mod Sources
+pub mod Lists
+pub mod Table
+pub mod History
+pub mod Instants
+pub mod WrittenDigits
+pub mod WrittenSources
+pub mod WrittenSamples
+pub mod WrittenLaw

@@ -1,0 +1,87 @@
+// The bits that a signal takes of the digits of a value.
+ghost use Rattle.std.specs.Prelude.{◌≡◌, ◌≤◌, ◌-◌, ◌+◌, ◌^◌, length};
+ghost use Rattle.xif_sampler.specs.Digits.{filler, value_of, unknown_of, quad_from};
+
+use vcd_text::Digit;
+use xif_signals::Quad;
+
+/// `width` bits of a value, from its bit `low` on.
+pub fn quad_of(digits: &[Digit], low: u32, width: u8) -> Quad
+    requires { width ≤ 64 }
+    ensures { result ≡ quad_from digits.now low width }
+{
+    let end = digits.len().saturating_sub(low as usize);
+    let start = end.saturating_sub(usize::from(width));
+    let mut quad = written(digits, start, end);
+    // The digit that a value is extended by is no 1.
+    quad.unknown += unknown_bit(filler_of(digits)) * ones((end - start) as u8, width);
+    quad
+}
+
+/// The bits of the digits from `start` to `end`.
+fn written(digits: &[Digit], start: usize, end: usize) -> Quad
+    requires in_order { start ≤ end }
+    requires inside { end ≤ length digits.now }
+    requires few { end ≤ start + 64 }
+    ensures { result ≡ quad_from digits.now (length digits.now - end) (end - start) }
+{
+    let mut quad = Quad {
+        value: 0,
+        unknown: 0,
+    };
+    for index in start..end {
+        let digit = digits[index];
+        quad.value = quad.value * 2 + value_bit(digit);
+        quad.unknown = quad.unknown * 2 + unknown_bit(digit);
+    }
+    quad
+}
+
+/// The digit that a value is extended by on the left.
+fn filler_of(digits: &[Digit]) -> Digit
+    ensures { result ≡ filler digits.now }
+{
+    match digits {
+        [] => Digit::X,
+        [Digit::One, ..] => Digit::Zero,
+        [digit, ..] => *digit,
+    }
+}
+
+fn value_bit(digit: Digit) -> u64
+    ensures { result ≡ value_of digit }
+{
+    match digit {
+        Digit::One => 1,
+        Digit::Zero | Digit::X | Digit::Z => 0,
+    }
+}
+
+fn unknown_bit(digit: Digit) -> u64
+    ensures { result ≡ unknown_of digit }
+{
+    match digit {
+        Digit::X | Digit::Z => 1,
+        Digit::Zero | Digit::One => 0,
+    }
+}
+
+/// The number whose bits from `low` to below `high` are 1.
+fn ones(low: u8, high: u8) -> u64
+    requires in_order { low ≤ high }
+    requires few { high ≤ 64 }
+    ensures { result ≡ 2 ^ high - 2 ^ low }
+{
+    ones_below(high) - ones_below(low)
+}
+
+fn ones_below(high: u8) -> u64
+    requires { high ≤ 64 }
+    ensures { result ≡ 2 ^ high - 1 }
+{
+    if high == 64 {
+        u64::MAX
+    } else {
+        (1 << high) - 1
+    }
+}

@@ -1,0 +1,150 @@
+// The sampler: it takes the items of a waveform in order.
+ghost use Rattle.std.specs.Prelude.{◌≡◌, List, [], ◌∷◌, drop, Ok, Err, IfOk, IsOkAnd, IfErr};
+ghost use Rattle.xif_base.specs.Params.{IsInRange};
+ghost use Rattle.vcd_text.specs.declared.item.Item.{Item};
+ghost use Rattle.vcd_text.specs.declared.item.Item.TheVariants.{Time, Change};
+ghost use Rattle.xif_sampler.specs.declared.source.Source.{Source};
+ghost use Rattle.xif_sampler.specs.declared.fault.MapFault.{MapFault};
+ghost use Rattle.xif_sampler.specs.Places.{sources_of};
+ghost use Rattle.xif_sampler.specs.Samples.{is_number, sample_at, sample_by};
+ghost use Rattle.xif_sampler.specs.Keeping.{StandsFor};
+ghost use Rattle.xif_sampler.specs.Steps.{sample_between};
+
+use crate::fault::MapFail;
+use crate::find::find_sources;
+use crate::keeping::{change_quads, find_readers, first_quads, readers_of};
+use crate::place::SignalMap;
+use crate::source::{Readers, Source};
+use std::alloc::Global;
+use std::marker::Model;
+use vcd_text::{Declarations, Digits};
+use xif_base::Params;
+use xif_signals::{Quad, Sample, Signal};
+
+/// Takes the items of a waveform in order, and gives the sample of each instant in which the clock rises:
+/// the values of the signals from before it.
+///
+/// An instant lasts from a time to a greater one, or to the end; what comes before the first time is at
+/// time 0. All values are unknown at first. A value that is shorter than its variable is extended on the
+/// left (IEEE 1364-2005, 18.2.2).
+#[derive(Debug, Drop)]
+pub struct Sampler {
+    sources: [Source; 29],
+    /// The readers of each code.
+    readers: Vec<Readers>,
+    /// The time of this instant.
+    time: u64,
+    /// The values of the signals before this instant.
+    was: [Quad; 29],
+    now: [Quad; 29],
+}
+
+impl Model for Sampler {
+    ghost use Rattle.xif_sampler.specs.Keeping.{Sampling};
+    ghost use Rattle.xif_sampler.specs.Steps.{AreWithin, AreReaders};
+
+    ghost Value = { Sampling };
+
+    ghost view = { λ s. record { sources = s.sources; time = s.time; was = s.was; now = s.now } };
+
+    ghost invariant = { λ s. AreWithin 64 s.sources × AreReaders s.sources s.readers.items };
+}
+
+impl Sampler {
+    /// A sampler for the signals at the places of a map, among the variables that a waveform declares. The
+    /// fault is that of the first signal in the order of the table that has one. A signal without bits, by
+    /// the parameters, has none, whatever its place is. The only call that takes memory.
+    pub fn new(
+        alloc: Global,
+        map: &SignalMap,
+        declarations: &Declarations,
+        params: &Params,
+    ) -> Result<Sampler, MapFail>
+        requires { IsInRange params.now }
+        ensures ok { IfOk result (λ sampler.
+            IsOkAnd (sources_of map.now declarations.now params.now) (λ sources. StandsFor sampler sources [])) }
+        ensures fault { IfErr result (λ fail. (fault : MapFault) → fail ≡ MapFail.Map fault →
+            sources_of map.now declarations.now params.now ≡ Err fault) }
+    {
+        let sources = find_sources(alloc, map, declarations.as_slice(), params)?;
+        let readers = readers_of(alloc, &sources)?;
+        let quads = first_quads(&sources);
+        Ok(Sampler {
+            sources,
+            readers,
+            time: 0,
+            was: quads,
+            now: quads,
+        })
+    }
+
+    /// Takes a change of the variables of a code.
+    pub fn change(&mut self, code: u32, digits: &Digits)
+        ensures { (sources : List Source) (h : List Item) → StandsFor self.old sources h →
+            StandsFor self.new sources (Change code digits.now ∷ h) }
+    {
+        let readers = find_readers(&self.readers, code);
+        change_quads(
+            &mut self.now,
+            &self.sources,
+            readers,
+            code,
+            digits.as_slice(),
+        );
+    }
+
+    /// Takes a time. If it is greater than the last one, it ends the instant, and the answer is the
+    /// instant's sample where the clock rises in it.
+    pub fn time(&mut self, t: u64) -> Option<Sample>
+        ensures stands { (sources : List Source) (h : List Item) → StandsFor self.old sources h →
+            StandsFor self.new sources (Time t ∷ h) }
+        ensures sample { (sources : List Source) (h : List Item) → StandsFor self.old sources h →
+            result ≡ sample_by sources h t }
+    {
+        if t <= self.time {
+            return None;
+        }
+        let sample = sample_of(&self.was, &self.now);
+        self.time = t;
+        self.was = self.now;
+        sample
+    }
+
+    /// Ends the last instant: its sample, where the clock rises in it.
+    pub fn finish(&mut self) -> Option<Sample>
+        ensures sample { (sources : List Source) (h : List Item) → StandsFor self.old sources h →
+            result ≡ sample_at sources h }
+        ensures same { self.new ≡ self.old }
+    {
+        sample_of(&self.was, &self.now)
+    }
+}
+
+/// The sample of an instant, by the values before it and behind it.
+fn sample_of(was: &[Quad; 29], now: &[Quad; 29]) -> Option<Sample>
+    ensures { result ≡ sample_between was.now now.now }
+{
+    if is_zero_or_one(was[0], 0) && is_zero_or_one(now[0], 1) {
+        Some(sample_from(was))
+    } else {
+        None
+    }
+}
+
+fn is_zero_or_one(quad: Quad, number: u64) -> bool
+    ensures { result ≡ is_number number quad }
+{
+    quad.value == number && quad.unknown == 0
+}
+
+/// The values of all signals but the clock.
+fn sample_from(quads: &[Quad; 29]) -> Sample
+    ensures { result ≡ drop 1 quads.now }
+{
+    let signals = Signal::all();
+    let mut sample = Sample::new();
+    for i in 1..29 {
+        sample.set(signals[i], quads[i]);
+    }
+    sample
+}
