@@ -38,6 +38,12 @@ impl Accumulators {
         })
     }
 
+    fn as_slice(&self) -> &[u64]
+        ensures { result.now ≡ self.now }
+    {
+        &self.values
+    }
+
     fn get(&self, acc: u8) -> u64
         requires { acc < length self.now }
         ensures { result ≡ slice_index self.now acc }
@@ -90,6 +96,21 @@ impl UnitState {
             units.push(accumulators.copy(alloc)?)?;
         }
         Ok(UnitState { units })
+    }
+
+    /// The number of units.
+    pub fn len(&self) -> usize
+        ensures { result ≡ length self.now }
+    {
+        self.units.len()
+    }
+
+    /// The accumulators of a unit.
+    pub fn unit(&self, unit: usize) -> &[u64]
+        requires { unit < length self.now }
+        ensures { result.now ≡ accumulators_of self.now unit }
+    {
+        self.units[unit].as_slice()
     }
 
     pub fn get(&self, unit: u8, acc: u8) -> u64

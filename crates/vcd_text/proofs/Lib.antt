@@ -5,6 +5,7 @@ pub mod Sound
 pub mod SoundReading
 pub mod Standing
 pub mod Texts
+pub mod WellFormed
 pub mod Pieces
 pub mod Fitting
 pub mod Says

@@ -1,5 +1,5 @@
 -- The text of a list of buses reads back.
-use Rattle.std.proofs.Common.{◌≡◌, ◌+◌, ◌*◌, ◌^◌, ◌<◌, ℕ, List, [], ◌∷◌, ◌++◌, length, None, Some, Ok, refl, sym, ap, ◌∙◌, subst, arith, lit<}
+use Rattle.std.proofs.Common.{◌≡◌, ◌+◌, ◌^◌, ◌<◌, List, [], ◌∷◌, length, None, ap, subst, arith}
 use Rattle.std.specs.List.{All, AllByRecursion}
 use Rattle.std.proofs.lemmas.List.Elements.{All-head, All-tail}
 use Rattle.xif_base.specs.declared.params.Params.{Params}
@@ -8,9 +8,8 @@ use Rattle.xif_signals.specs.declared.bus.Bus.{Bus}
 use Rattle.xif_signals.specs.declared.signal.Signal.{Signal}
 use Rattle.xif_signals.specs.declared.signal.Signal.TheVariants.{Clk}
 use Rattle.xif_signals.specs.Bus.{FitsWidths}
-use Rattle.vcd_text.specs.Codes.{Code, code_from}
 use Rattle.vcd_text.specs.Reading.{Read, read_whole, ends}
-use Rattle.vcd_text.specs.Written.{wires_of, data_wires_of, variables_from, header_text, cycles_text, vcd_text_of, written_variables, written_items}
+use Rattle.vcd_text.specs.Written.{wires_of, data_wires_of, header_text, cycles_text, vcd_text_of, written_variables, written_items}
 use Rattle.vcd_text.specs.Writing.{ReadsBack}
 use Rattle.vcd_text.proofs.Says.{Says, said, says-then, says-whole}
 use Rattle.vcd_text.proofs.SaidLines.{in_body}

@@ -1,5 +1,5 @@
 -- What the cycles of a text say.
-use Rattle.std.proofs.Common.{◌≡◌, ◌+◌, ◌*◌, ◌^◌, ◌<◌, ◌≤◌, ℕ, Bool, true, false, cond, List, [], ◌∷◌, ◌++◌, length, Option, Some, refl, sym, ap, ◌∙◌, subst, arith, lit<, lit≤}
+use Rattle.std.proofs.Common.{◌≡◌, ◌+◌, ◌*◌, ◌^◌, ◌<◌, ◌≤◌, ℕ, Bool, true, false, cond, List, [], ◌∷◌, ◌++◌, length, Option, Some, sym, ap, ◌∙◌, subst, arith, lit<, lit≤}
 use Rattle.std.specs.List.{flat_map, AllByRecursion}
 use Rattle.xif_base.specs.declared.params.Params.{Params}
 use Rattle.xif_signals.specs.declared.bus.Bus.{Bus}
@@ -8,7 +8,6 @@ use Rattle.xif_signals.specs.declared.signal.Signal.{Signal}
 use Rattle.xif_signals.specs.Signal.{number_of, code_of, width_of}
 use Rattle.xif_signals.specs.Bus.{sample_of, FitsWidths}
 use Rattle.vcd_text.specs.declared.declaration.Variable.{Variable}
-use Rattle.vcd_text.specs.declared.item.Item.{Item}
 use Rattle.vcd_text.specs.declared.item.Item.TheVariants.{Time, Change}
 use Rattle.vcd_text.specs.Codes.{Code, code_from}
 use Rattle.vcd_text.specs.Written.{time_line, clock_line, change_line, changed_line, is_same, value_in, data_wires_of, cycle_text, cycles_text, bits, change_items, cycle_items, cycles_items}

@@ -1,5 +1,5 @@
 -- What the header says.
-use Rattle.std.proofs.Common.{◌≡◌, ◌+◌, ◌^◌, ◌<◌, ◌≤◌, ◌==◌, ◌&&◌, ℕ, zero, suc, Bool, true, false, cond, List, [], ◌∷◌, ◌++◌, length, map, Option, Some, None, refl, sym, ap, ◌∙◌, append_assoc, arith, lit≤}
+use Rattle.std.proofs.Common.{◌≡◌, ◌+◌, ◌<◌, ◌≤◌, ◌==◌, ℕ, Bool, true, false, cond, List, [], ◌∷◌, ◌++◌, length, map, Some, None, refl, sym, ap, ◌∙◌, append_assoc, arith, lit≤}
 use Rattle.std.specs.Prelude.{codes, nat_le}
 use Rattle.std.specs.Str.{bytes_eq, is_utf8}
 use Rattle.std.specs.List.{flat_map}
@@ -14,15 +14,14 @@ use Rattle.vcd_text.specs.declared.keyword.Keyword.TheVariants.{Var}
 use Rattle.vcd_text.specs.declared.state.Part.TheVariants.{Nothing, Block}
 use Rattle.vcd_text.specs.declared.state.State.{State}
 use Rattle.vcd_text.specs.declared.declaration.Variable.{Variable}
-use Rattle.vcd_text.specs.declared.item.Item.{Item}
 use Rattle.vcd_text.specs.Words.{is_end, is_code}
 use Rattle.vcd_text.specs.Codes.{Code, code_from}
-use Rattle.vcd_text.specs.Grammar.{Step, goes, fault, block, with_part, kept, full_name, var_sized, var_at}
+use Rattle.vcd_text.specs.Grammar.{goes, block, with_part, kept, var_sized, var_at}
 use Rattle.vcd_text.specs.Written.{numeral, word, last, var_line, header_text, wires_of, variables_from}
-use Rattle.vcd_text.proofs.Says.{Says, says-then, says-to, says-word, says-nothing, IsWord}
+use Rattle.vcd_text.proofs.Says.{Says, said, says-then, says-to, says-word, says-nothing}
 use Rattle.vcd_text.proofs.Numerals.{numeral_word, number_numeral, some_digits}
 use Rattle.vcd_text.proofs.SaidLines.{in_body}
-use Rattle.vcd_text.proofs.Table.{utf8, IsPlain, IsDeclarable, is_declarable_lem, codes_same, width_fits, Rise}
+use Rattle.vcd_text.proofs.Table.{utf8, IsPlain, is_declarable_lem, codes_same, width_fits, Rise}
 
 abbrev scope_name : List ℕ
 scope_name = codes "xif"
@@ -48,7 +47,7 @@ says-timescale : (at : ℕ) → Says at (declaring [] [] []) (codes "$timescale 
 says-timescale at = record { whole = refl; read = refl }
 
 says-scope : (at : ℕ) → Says at (declaring [] [] []) (codes "$scope module xif $end\n") (inside [] []) []
-says-scope at = let e : is_utf8 scope_name ≡ true = utf8 scope_name refl in record { whole = refl; read = rw e refl }
+says-scope at = let e : is_utf8 scope_name ≡ true = utf8 scope_name refl in record { whole = refl; read = rw e (refl {a = said (inside [] []) []}) }
 
 says-upscope : (at : ℕ) (cs : List Code) (vs : List Variable) → Says at (inside cs vs) (codes "$upscope $end\n") (declaring [] cs vs) []
 says-upscope at cs vs = record { whole = refl; read = refl }

@@ -28,15 +28,22 @@ use Rattle.vcd_text.specs.Sound.{size_at, IsPlaced, IsSound}
 
 -- ---- what a step does
 
+-- the last time is the item's, which is no less than the one before, or stays
+abbrev pub Ascends : ℕ → ℕ → Option Item → Type 0
+Ascends old new None = new ≡ old
+Ascends old new (Some (Change code ds)) = new ≡ old
+Ascends old new (Some (Time t)) = (old ≤ t) × (new ≡ t)
+
 -- the next state is sound; once all is declared nothing more is, and an item fits; before there is none
-pub record Goes (is_declared : Bool) (vs : List Variable) (n : State) (o : Option Item) : Type 0 where
+pub record Goes (is_declared : Bool) (vs : List Variable) (time : ℕ) (n : State) (o : Option Item) : Type 0 where
   pub sound : IsSound n
   pub stays : is_declared ≡ true → (n.is_declared ≡ true) × (n.variables ≡ vs)
   pub none : is_declared ≡ false → o ≡ None
   pub fits : IfSome o (FitsDeclared vs)
+  pub times : Ascends time n.time o
 
 abbrev pub GoesOn : State → Step → Type 0
-GoesOn s (Ok x) = Goes s.is_declared s.variables x.0 x.1
+GoesOn s (Ok x) = Goes s.is_declared s.variables s.time x.0 x.1
 GoesOn s (Err f) = Unit {0}
 
 goes_if : (s : State) (b : Bool) (x y : Step) → (b ≡ true → GoesOn s x) → (b ≡ false → GoesOn s y) → GoesOn s (cond b x y)
@@ -44,11 +51,11 @@ goes_if s true x y h k = h refl
 goes_if s false x y h k = k refl
 
 -- a state without an item that declares nothing
-goes_same : (s n : State) → IsSound n → n.is_declared ≡ s.is_declared → n.variables ≡ s.variables → GoesOn s (goes n)
-goes_same s n h e f = record { sound = h; stays = λ d. (e ∙ d, f); none = λ _. refl; fits = tt }
+goes_same : (s n : State) → IsSound n → n.is_declared ≡ s.is_declared → n.variables ≡ s.variables → n.time ≡ s.time → GoesOn s (goes n)
+goes_same s n h e f t = record { sound = h; stays = λ d. (e ∙ d, f); none = λ _. refl; fits = tt; times = t }
 
 goes_with : (s : State) (part : Part) → IsSound s → IsPlaced part s.is_declared → GoesOn s (goes (with_part s part))
-goes_with s part h p = goes_same s (with_part s part) (record { consistent = h.consistent; sizes = h.sizes; placed = p }) refl refl
+goes_with s part h p = goes_same s (with_part s part) (record { consistent = h.consistent; sizes = h.sizes; placed = p }) refl refl refl
 
 -- ---- codes and their sizes
 
@@ -115,6 +122,7 @@ goes_declared s name code size cs not p h e = record {
   stays = λ d. absurd (true≢false (sym d ∙ not));
   none = λ _. refl;
   fits = tt;
+  times = refl;
 }
 
 declared-sizes_by : (code k size : ℕ) (o : Option ℕ) (b : Bool) → (b ≡ true → o ≡ Some size) → orelse o (cond b (Some size) None) ≡ o
@@ -159,12 +167,12 @@ scope-goes s at [] h = tt
 scope-goes s at (a ∷ []) h = tt
 scope-goes s at (a ∷ name ∷ more) h =
     goes_if s (nat_lt (length s.scopes) 64 && is_utf8 name) _ _
-    (λ _. goes_same s _ (record { consistent = h.consistent; sizes = h.sizes; placed = h.placed }) refl refl) (λ _. tt)
+    (λ _. goes_same s _ (record { consistent = h.consistent; sizes = h.sizes; placed = h.placed }) refl refl refl) (λ _. tt)
 
 upscope-goes : (s : State) (at : ℕ) → IsSound s → GoesOn s (upscope s at)
 upscope-goes s at h =
     goes_if s (length s.scopes == 0) _ _ (λ _. tt)
-    (λ _. goes_same s _ (record { consistent = h.consistent; sizes = h.sizes; placed = h.placed }) refl refl)
+    (λ _. goes_same s _ (record { consistent = h.consistent; sizes = h.sizes; placed = h.placed }) refl refl refl)
 
 -- the declarations are complete
 complete-goes : (s : State) → IsSound s → s.is_declared ≡ false → IsPlaced s.part true → GoesOn s (goes (record s { is_declared = true }))
@@ -173,6 +181,7 @@ complete-goes s h not p = record {
   stays = λ d. absurd (true≢false (sym d ∙ not));
   none = λ _. refl;
   fits = tt;
+  times = refl;
 }
 
 block-goes : (s : State) (at : ℕ) (k : Keyword) (words : List (List ℕ)) → IsSound s → s.is_declared ≡ false → IsPlaced s.part true → GoesOn s (block s at k words)
@@ -180,9 +189,9 @@ block-goes s at Scope words h not p = scope-goes s at words h
 block-goes s at Upscope words h not p = upscope-goes s at h
 block-goes s at Var words h not p = var-goes s at words h not
 block-goes s at EndDefinitions words h not p = complete-goes s h not p
-block-goes s at End words h not p = goes_same s s h refl refl
-block-goes s at Dump words h not p = goes_same s s h refl refl
-block-goes s at Other words h not p = goes_same s s h refl refl
+block-goes s at End words h not p = goes_same s s h refl refl refl
+block-goes s at Dump words h not p = goes_same s s h refl refl refl
+block-goes s at Other words h not p = goes_same s s h refl refl refl
 
 opened-goes : (s : State) (at : ℕ) (k : Keyword) → IsSound s → s.is_declared ≡ false → GoesOn s (opened s at k)
 opened-goes s at Scope h not = goes_with s (Block at Scope []) h not
@@ -204,6 +213,7 @@ change_of-goes s at code_at ds (Some known) h ready some e =
       stays = λ d. (d, refl);
       none = λ not. absurd (true≢false (sym ready ∙ not));
       fits = subst (λ o. IsSomeAnd o (λ size. (1 ≤ length ds) × (length ds ≤ size))) (sym (e known refl)) (some, leb-true (length ds) known.1 t);
+      times = refl;
     }) (λ _. tt)
 
 change-goes : (s : State) (at : ℕ) (ds : List Digit) (code_at : ℕ) (text : List ℕ) → IsSound s → s.is_declared ≡ true → 1 ≤ length ds → GoesOn s (change s at ds code_at text)
@@ -212,11 +222,12 @@ change-goes s at ds code_at text h ready some = change_of-goes s at code_at ds (
 time_of-goes : (s : State) (at : ℕ) (o : Option ℕ) → IsSound s → s.is_declared ≡ true → GoesOn s (time_of s at o)
 time_of-goes s at None h ready = tt
 time_of-goes s at (Some t) h ready =
-    goes_if s (nat_le s.time t) _ _ (λ _. record {
+    goes_if s (nat_le s.time t) _ _ (λ later. record {
       sound = record { consistent = h.consistent; sizes = h.sizes; placed = h.placed };
       stays = λ d. (d, refl);
       none = λ not. absurd (true≢false (sym ready ∙ not));
       fits = tt;
+      times = (leb-true s.time t later, refl);
     }) (λ _. tt)
 
 scalar-goes : (s : State) (at : ℕ) (o : Option Digit) (text : List ℕ) → IsSound s → s.is_declared ≡ true → GoesOn s (scalar s at o text)
@@ -234,8 +245,8 @@ command-goes s at Scope h = tt
 command-goes s at Upscope h = tt
 command-goes s at Var h = tt
 command-goes s at EndDefinitions h = tt
-command-goes s at End h = goes_same s s h refl refl
-command-goes s at Dump h = goes_same s s h refl refl
+command-goes s at End h = goes_same s s h refl refl refl
+command-goes s at Dump h = goes_same s s h refl refl refl
 command-goes s at Other h = goes_with s (Skipped at) h tt
 
 body-goes : (s : State) (at : ℕ) (text : List ℕ) → IsSound s → s.is_declared ≡ true → GoesOn s (body s at text)
@@ -254,9 +265,9 @@ in_part-goes Nothing s t h p clear =
     (λ not. goes_if s (is_command t.text) _ _ (λ _. opened-goes s t.at (keyword t.text) h not) (λ _. tt))
 in_part-goes (Block at k words) s t h p clear =
     goes_if s (is_end t.text) _ _ (λ _. block-goes s at k words h p (clear true)) (λ _. goes_with s (Block at k (kept words t.text)) h p)
-in_part-goes (Skipped at) s t h p clear = goes_if s (is_end t.text) _ _ (λ _. goes_same s s h refl refl) (λ _. goes_with s (Skipped at) h tt)
+in_part-goes (Skipped at) s t h p clear = goes_if s (is_end t.text) _ _ (λ _. goes_same s s h refl refl refl) (λ _. goes_with s (Skipped at) h tt)
 in_part-goes (Vector at ds) s t h p clear = change-goes s at ds t.at t.text h p.0 p.1
-in_part-goes (Passed at) s t h p clear = goes_same s s h refl refl
+in_part-goes (Passed at) s t h p clear = goes_same s s h refl refl refl
 
 pub step-goes : (s : State) (t : Token) → IsSound s → GoesOn (with_part s Nothing) (step s t)
 step-goes s t h = in_part-goes s.part (with_part s Nothing) t (record { consistent = h.consistent; sizes = h.sizes; placed = tt }) h.placed (λ d. tt)

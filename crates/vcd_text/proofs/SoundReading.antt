@@ -40,14 +40,14 @@ all-option P items (Some i) h k = All-push P items i h k
 
 -- ---- a token more
 
-items-none_by : (r : Read) (s n : State) (o : Option Item) (b : Bool) → s.is_declared ≡ b → IsSoundRead r → r.variables ≡ declared_by s → Goes s.is_declared s.variables n o
+items-none_by : (r : Read) (s n : State) (o : Option Item) (b : Bool) → s.is_declared ≡ b → IsSoundRead r → r.variables ≡ declared_by s → Goes s.is_declared s.variables s.time n o
     → declared_by n ≡ None → r.items ++ option_to_list o ≡ []
 items-none_by r s n o true e h v g none =
     absurd (true≢false (sym (g.stays e).0 ∙ declared-none_by n.is_declared n.variables none))
 items-none_by r s n o false e h v g none =
     ap (λ x. r.items ++ option_to_list x) (g.none e) ∙ append-nil r.items ∙ h.none (v ∙ declared-isnt s e)
 
-items-fit_by : (r : Read) (s n : State) (o : Option Item) (b : Bool) → s.is_declared ≡ b → IsSoundRead r → r.variables ≡ declared_by s → Goes s.is_declared s.variables n o
+items-fit_by : (r : Read) (s n : State) (o : Option Item) (b : Bool) → s.is_declared ≡ b → IsSoundRead r → r.variables ≡ declared_by s → Goes s.is_declared s.variables s.time n o
     → All (FitsDeclared n.variables) (r.items ++ option_to_list o)
 items-fit_by r s n o true e h v g =
     subst (λ vs. All (FitsDeclared vs) (r.items ++ option_to_list o)) (sym (g.stays e).1)

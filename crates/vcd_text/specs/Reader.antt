@@ -54,6 +54,6 @@ Closed new text taken (Ok u) = (vs : List Variable) × (new.read.variables ≡ S
 Closed new text taken (Err (Vcd f)) = (reading_of text ≡ Err f) × (taken ++ new.read.items ≡ (read_whole text).items)
 Closed new text taken (Err NoMemory) = new.has_failed ≡ true
 
--- the first item is taken
+-- the first item is taken, but for a reader that found no memory
 abbrev pub after_take : Progress → Progress
-after_take p = cond p.has_failed p (record p { read = record p.read { items = drop 1 p.read.items } })
+after_take p = record p { read = record p.read { items = cond p.has_failed p.read.items (drop 1 p.read.items) } }

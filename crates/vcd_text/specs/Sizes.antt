@@ -1,8 +1,10 @@
--- The sizes of codes, and the changes that fit them.
-use Rattle.std.specs.Prelude.{◌≡◌, ◌≤◌, ℕ, ◌==◌, cond, List, [], ◌∷◌, length, Option, Some, None, IsSomeAnd, All}
+-- What every reading keeps: the sizes of codes, changes that fit them, and times that don't fall.
+use Rattle.std.specs.Prelude.{◌≡◌, ◌≤◌, ℕ, ◌==◌, cond, List, [], ◌∷◌, length, Option, Some, None, nat_lt, IsSomeAnd, All}
+use Rattle.std.specs.List.Sorted.{IsSortedBy}
 use Rattle.vcd_text.specs.declared.declaration.Variable.{Variable}
 use Rattle.vcd_text.specs.declared.item.Item.{Item}
 use Rattle.vcd_text.specs.declared.item.Item.TheVariants.{Time, Change}
+use Rattle.vcd_text.specs.Reading.{Reading}
 
 -- the size of a code, as its first variable has it
 abbrev pub size_of : List Variable → ℕ → Option ℕ
@@ -17,3 +19,16 @@ AreConsistent vs = All (λ v. size_of vs v.code ≡ Some v.size) vs
 abbrev pub FitsDeclared : List Variable → Item → Type 0
 FitsDeclared vs (Time t) = Unit {0}
 FitsDeclared vs (Change code digits) = IsSomeAnd (size_of vs code) (λ size. (1 ≤ length digits) × (length digits ≤ size))
+
+-- the times among items
+abbrev pub times_of : List Item → List ℕ
+times_of [] = []
+times_of (Time t ∷ items) = t ∷ times_of items
+times_of (Change code digits ∷ items) = times_of items
+
+-- what every reading is
+pub record IsWellFormed (r : Reading) : Type 0 where
+  pub consistent : AreConsistent r.variables
+  pub fits : All (FitsDeclared r.variables) r.items
+  -- times don't fall
+  pub ascending : IsSortedBy nat_lt (times_of r.items)

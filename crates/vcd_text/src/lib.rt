@@ -11,8 +11,9 @@ mod digit;
 mod fault;
 mod item;
 mod keyword;
-mod law;
+mod laws;
 mod lines;
+mod read_back;
 mod reader;
 mod scanner;
 mod scopes;
@@ -23,12 +24,15 @@ mod token;
 mod word;
 mod writer;
 #[cfg(test)]
+mod tests;
+#[cfg(test)]
 mod writer_tests;
 
 pub use declaration::{Declarations, Variable};
 pub use digit::{Digit, Digits};
 pub use fault::{FeedFail, VcdCause, VcdFault};
 pub use item::Item;
-pub use law::written_texts_read_back;
+pub use laws::{fault_law, reading_law};
+pub use read_back::written_texts_read_back;
 pub use reader::Reader;
 pub use writer::Writer;

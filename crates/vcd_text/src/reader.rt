@@ -1,5 +1,5 @@
 // Reads a text in pieces.
-ghost use Rattle.std.specs.Prelude.{◌≡◌, ◌<◌, ◌≤◌, ◌^◌, ◌+◌, ◌++◌, ◌∷◌, [], ℕ, List, None, Some, true, false, cond, length, slice_get, IfSome, MatchOption};
+ghost use Rattle.std.specs.Prelude.{◌≡◌, ◌<◌, ◌≤◌, ◌^◌, ◌+◌, ◌++◌, ◌∷◌, [], ℕ, List, None, Some, true, false, cond, length, slice_get, IfSome, OnOk, OnErr, MatchOption};
 ghost use Rattle.std.specs.Option.{option_map};
 ghost use Rattle.vcd_text.specs.declared.fault.VcdFault.{VcdFault};
 ghost use Rattle.vcd_text.specs.declared.item.Item.{Item};
@@ -37,7 +37,7 @@ impl Reader {
     pub fn new(alloc: Global) -> Reader
         ensures stands { Stands result [] [] }
         ensures size { result.size ≡ 0 }
-        ensures open { result.is_closed ≡ false }
+        ensures not_closed { result.is_closed ≡ false }
     {
         Reader {
             scanner: Scanner::new(alloc),
@@ -49,14 +49,14 @@ impl Reader {
     /// Takes the next piece of the text in. The fault is that of the tokens which are complete by then; once it
     /// is told, every later call tells it. After a want of memory every later call answers that there is none.
     pub fn feed(&mut self, piece: &[u8]) -> Result<(), FeedFail>
-        requires open { self.old.is_closed ≡ false }
+        requires not_closed { self.old.is_closed ≡ false }
         requires room { self.old.has_failed ≡ false → self.old.size + length piece.now < 2 ^ 32 }
         ensures fed { (text : List ℕ) (taken : List Item) → Stands self.old text taken → Fed self.new (text ++ piece.now) taken result }
         ensures fault { (f : VcdFault) → IsFaulty self.old f → (result ≡ Err (FeedFail.Vcd f)) × (self.new ≡ self.old) }
         ensures failed { self.old.has_failed ≡ true → (result ≡ Err FeedFail.NoMemory) × (self.new ≡ self.old) }
         ensures declared { (vs : List Variable) → self.old.read.variables ≡ Some vs → self.new.has_failed ≡ false → self.new.read.variables ≡ Some vs }
         ensures size { self.new.size ≤ self.old.size + length piece.now }
-        ensures open { self.new.is_closed ≡ false }
+        ensures not_closed { self.new.is_closed ≡ false }
     {
         if self.has_failed {
             return Err(FeedFail::NoMemory);
@@ -80,11 +80,13 @@ impl Reader {
 
     /// Says that the text has ended.
     pub fn close(&mut self) -> Result<(), FeedFail>
-        requires open { self.old.is_closed ≡ false }
+        requires not_closed { self.old.is_closed ≡ false }
         ensures closed { (text : List ℕ) (taken : List Item) → Stands self.old text taken → Closed self.new text taken result }
         ensures fault { (f : VcdFault) → IsFaulty self.old f → (result ≡ Err (FeedFail.Vcd f)) × (self.new ≡ self.old) }
         ensures failed { self.old.has_failed ≡ true → (result ≡ Err FeedFail.NoMemory) × (self.new ≡ self.old) }
         ensures declared { (vs : List Variable) → self.old.read.variables ≡ Some vs → self.new.has_failed ≡ false → self.new.read.variables ≡ Some vs }
+        ensures ended { OnOk result (self.new.is_closed ≡ true) }
+        ensures not_closed { OnErr result (self.new.is_closed ≡ false) }
         ensures told { (f : VcdFault) → result ≡ Err (FeedFail.Vcd f) → IsFaulty self.new f }
         ensures size { self.new.size ≡ self.old.size }
     {

@@ -15,8 +15,8 @@ use std::marker::Model;
 use xif_base::{NoMemory, Params};
 use xif_signals::{Bus, Sample, Signal};
 
-/// The size of the first buffer of a piece, in bytes, which is enough for most cycles.
-const PIECE: usize = 512;
+/// How many bytes are reserved for the piece of a cycle, enough for all but the largest.
+const CYCLE_CAPACITY: usize = 512;
 
 /// Writes the text of a list of buses in pieces: the header, one piece a cycle, and the end.
 #[derive(Debug, Drop)]
@@ -73,7 +73,7 @@ impl Writer {
             → Wrote self.new (buses ++ bus.now ∷ []) (text ++ piece.items)) }
         ensures err { OnErr result (self.new ≡ self.old) }
     {
-        let mut text = Vec::with_capacity(alloc, PIECE)?;
+        let mut text = Vec::with_capacity(alloc, CYCLE_CAPACITY)?;
         let sample = bus.sample();
         put_cycle(
             &mut text,

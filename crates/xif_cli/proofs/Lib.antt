@@ -1,5 +1,4 @@
 pub mod Forms
 pub mod Numbers
 pub mod Printed
-pub mod RawForm
 pub mod MemoryLines

@@ -1,10 +1,16 @@
 -- What the program answers, and what stands afterwards.
-use Rattle.std.specs.Prelude.{◌≡◌, ◌≢◌, ℕ, List, Option, String, string_bytes, map}
+use Rattle.std.specs.Prelude.{◌≡◌, ◌≢◌, ◌⊎◌, ◌==◌, ◌&&◌, ◌||◌, ℕ, Bool, true, false, not, List, Option, Some, Result, Ok, Err, String, string_bytes, map}
 use Rattle.std.specs.declared.alloc.Global.{Global}
+use Rattle.xif_base.specs.Faults.{Rose}
+use Rattle.xif_base.specs.Files.{Files}
 use Rattle.xif_base.specs.Output.{grown, GrowsByFront}
+use Rattle.xif_base.specs.declared.outside.Which.{Which}
+use Rattle.xif_base.specs.declared.outside.Which.TheVariants as which
 use Rattle.xif_cli.specs.declared.status.Status.{Status}
-use Rattle.xif_cli.specs.declared.status.Status.TheVariants.{Done, Usage, ReadFault, WriteFault, TooBig, NoMemory, Unbuilt}
-use Rattle.xif_cli.specs.Words.{Form, Raw, IsCommand}
+use Rattle.xif_cli.specs.declared.status.Status.TheVariants.{Done, Usage, ReadFault, WriteFault, Job, Image, TooBig, NoMemory, Unbuilt}
+use Rattle.xif_cli.specs.Outcome.{Lookup, found, without, place_of, outcome_of}
+use Rattle.xif_cli.specs.Words.{Form, IsCommand}
+use Rattle.xif_cli.specs.Words as form
 
 -- the words as texts
 abbrev pub texts_of : List (String Global) → List (List ℕ)
@@ -14,40 +20,68 @@ texts_of words = map string_bytes words
 abbrev pub IsNoCommand : List (String Global) → Type 0
 IsNoCommand words = (form : Form) → ¬ IsCommand (texts_of words) form
 
--- the words are those of a form other than `raw`
-abbrev pub IsOtherCommand : List (String Global) → Type 0
-IsOtherCommand words = (form : Form) × IsCommand (texts_of words) form × ((image : List ℕ) (count : ℕ) → form ≢ Raw image count)
+-- what the words ask for comes to this, over what is read of the files
+abbrev pub Means : List (String Global) → Lookup → Result (List ℕ) Status → Type 0
+Means words find outcome = (form : Form) × (IsCommand (texts_of words) form × (outcome_of form find ≡ outcome))
 
--- where the words are those of `raw`, this holds of its image and its count
-abbrev pub IfRaw : List (String Global) → (List ℕ → ℕ → Type 0) → Type 0
-IfRaw words P = (image : List ℕ) (count : ℕ) → IsCommand (texts_of words) (Raw image count) → P image count
+-- the files that a form reads
+abbrev pub reads : Form → Which → Bool
+reads (form.Raw image count) w = place_of w == place_of which.Image
+reads (form.Step job) w = (place_of w == place_of which.Job) || (place_of w == place_of which.Image)
+reads _ w = false
 
--- What a command that prints has put, by its status: all of its text; a front of it, where the output failed or memory ran out; else nothing.
-abbrev pub HasPut : Status → (before after : Option (List ℕ)) (text : List ℕ) → Type 0
-HasPut Done before after text = after ≡ grown before text
-HasPut (WriteFault which) before after text = GrowsByFront before after text
-HasPut NoMemory before after text = GrowsByFront before after text
-HasPut Usage before after text = after ≡ before
-HasPut (ReadFault which) before after text = after ≡ before
-HasPut (TooBig which) before after text = after ≡ before
-HasPut Unbuilt before after text = after ≡ before
+-- a form that is built
+abbrev pub is_built : Form → Bool
+is_built (form.Raw image count) = true
+is_built (form.Step job) = true
+is_built _ = false
 
--- what becomes of a text that is printed
-abbrev pub IsPrintStatus : Status → Type 0
-IsPrintStatus Done = Unit {0}
-IsPrintStatus (WriteFault which) = Unit {0}
-IsPrintStatus NoMemory = Unit {0}
-IsPrintStatus Usage = ⊥
-IsPrintStatus (ReadFault which) = ⊥
-IsPrintStatus (TooBig which) = ⊥
-IsPrintStatus Unbuilt = ⊥
+-- a form that reads a job
+abbrev pub has_job : Form → Bool
+has_job f = reads f which.Job
+
+-- the statuses that a form can end with, whether files are told or not
+abbrev pub can_end : Form → Status → Bool
+can_end f Done = is_built f
+can_end f Usage = false
+can_end f (ReadFault w) = reads f w
+can_end f (WriteFault w) = is_built f && (place_of w == place_of which.Output)
+can_end f (Job fault) = has_job f
+can_end f (Image fault) = has_job f
+can_end f (TooBig w) = reads f w
+can_end f NoMemory = is_built f
+can_end f Unbuilt = has_job f || not (is_built f)
+
+-- the statuses that a form can end with before it prints
+abbrev pub can_refuse : Form → Status → Bool
+can_refuse f Done = false
+can_refuse f (WriteFault w) = false
+can_refuse f status = can_end f status
+
+-- a call raised a count of faults, and what was called didn't say that it would have none
+abbrev pub IsFaulted : (faultless : Type 0) (before now : ℕ) → Type 0
+IsFaulted faultless before now = Rose before now × ¬ faultless
+
+-- a refusal because of what a file holds, or of a form that isn't built
+abbrev pub IsRefusalOfContent : Status → Type 0
+IsRefusalOfContent Done = ⊥
+IsRefusalOfContent Usage = ⊥
+IsRefusalOfContent (ReadFault which) = ⊥
+IsRefusalOfContent (WriteFault which) = ⊥
+IsRefusalOfContent (Job fault) = Unit {0}
+IsRefusalOfContent (Image fault) = Unit {0}
+IsRefusalOfContent (TooBig which) = Unit {0}
+IsRefusalOfContent NoMemory = ⊥
+IsRefusalOfContent Unbuilt = Unit {0}
 
 -- a refusal before anything is written
 abbrev pub IsRefusal : Status → Type 0
 IsRefusal Done = ⊥
-IsRefusal (WriteFault which) = ⊥
-IsRefusal NoMemory = ⊥
 IsRefusal Usage = Unit {0}
 IsRefusal (ReadFault which) = Unit {0}
+IsRefusal (WriteFault which) = ⊥
+IsRefusal (Job fault) = Unit {0}
+IsRefusal (Image fault) = Unit {0}
 IsRefusal (TooBig which) = Unit {0}
+IsRefusal NoMemory = ⊥
 IsRefusal Unbuilt = Unit {0}

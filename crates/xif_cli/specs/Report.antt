@@ -9,11 +9,18 @@ use Rattle.inorder_machine.specs.Machine.{State}
 use Rattle.xif_image.specs.Region.{Region}
 use lib.Chars.{codes}
 
--- eight lower-case hexadecimal digits after 0x
-abbrev pub hex_word : ℕ → List ℕ
-hex_word n =
+-- so many lower-case hexadecimal digits, or more where the number has more, after 0x
+abbrev pub hex_digits : ℕ → ℕ → List ℕ
+hex_digits count n =
     let figures = digits 16 false n in
-    codes "0x" ++ replicate (8 - length figures) 48 ++ figures
+    codes "0x" ++ replicate (count - length figures) 48 ++ figures
+
+-- a word of 32 bits, and one of 64
+abbrev pub hex_word : ℕ → List ℕ
+hex_word n = hex_digits 8 n
+
+abbrev pub hex_double : ℕ → List ℕ
+hex_double n = hex_digits 16 n
 
 -- the word for an end: a stop's cause, or the budget
 abbrev pub end_word : Option StopCause → List ℕ
@@ -42,6 +49,19 @@ register_line number value =
 abbrev pub register_lines : List ℕ → List ℕ
 register_lines registers = flat_map (λ r. register_line r.0 r.1) (enumerate_from 1 (drop 1 registers))
 
+-- the line of an accumulator of a unit; one that is 0 has none
+abbrev pub accumulator_line : ℕ → ℕ → ℕ → List ℕ
+accumulator_line unit number value =
+    if value == 0 then [] else codes "u" ++ decimal unit ++ codes ".a" ++ decimal number ++ codes "=" ++ hex_double value ++ codes "\n"
+
+-- the lines of a unit's accumulators
+abbrev pub unit_lines : ℕ → List ℕ → List ℕ
+unit_lines unit accumulators = flat_map (λ a. accumulator_line unit a.0 a.1) (enumerate_from 0 accumulators)
+
+-- the lines of the accumulators of all units, in order
+abbrev pub accumulator_lines : List (List ℕ) → List ℕ
+accumulator_lines units = flat_map (λ u. unit_lines u.0 u.1) (enumerate_from 0 units)
+
 -- word i of these bytes, the lowest byte first; bytes past their end count as 0
 abbrev pub word_of : List ℕ → ℕ → ℕ
 word_of bytes i = from_le_bytes w32 (take 4 (drop (4 * i) bytes))
@@ -59,4 +79,4 @@ memory_lines before after =
 -- the report of a run that ended by this stop, or else by its budget, after so many retirements, in this state; before are the bytes of the memory at its start
 abbrev pub report_of : Option StopCause → ℕ → State → List ℕ → List ℕ
 report_of stop retired s before =
-    outcome_text stop s.pc retired ++ codes "\n" ++ register_lines s.registers ++ memory_lines before s.memory
+    outcome_text stop s.pc retired ++ codes "\n" ++ register_lines s.registers ++ accumulator_lines s.units ++ memory_lines before s.memory

@@ -1,5 +1,8 @@
--- What `raw` runs and prints.
+-- What the in-order commands run and print.
 use Rattle.std.specs.Prelude.{ℕ, List, [], replicate, false}
+use Rattle.coproc_config.specs.State.{zeros}
+use Rattle.xif_image.specs.Image.{Placement, placed}
+use Rattle.xif_job.specs.declared.job.Job.{Job}
 use Rattle.inorder_machine.specs.Machine.{Extension, State}
 use Rattle.inorder_machine.specs.After.{retired_within, last_within, stop_within}
 use Rattle.xif_base.specs.declared.params.Params.{Params}
@@ -35,3 +38,20 @@ run_report x start budget =
 -- what `raw` prints
 unfoldable pub raw_report : List ℕ → ℕ → List ℕ
 raw_report image count = run_report no_units (raw_start image) count
+
+-- the units and the parameters of a job
+abbrev pub extension_of : Job → Extension
+extension_of job = record { set = job.set; params = job.params }
+
+-- the machine at the start of `step`: the image in a memory of zeros, the first instruction at the job's entry, and all registers and accumulators 0
+abbrev pub step_start : Job → Placement → State
+step_start job image = record {
+  pc = job.entry;
+  registers = replicate 32 0;
+  memory = placed (record { base = job.base; bytes = replicate job.size 0 }) image;
+  units = zeros job.set;
+}
+
+-- what `step` prints
+unfoldable pub step_report : Job → Placement → List ℕ
+step_report job image = run_report (extension_of job) (step_start job image) job.budget

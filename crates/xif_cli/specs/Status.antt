@@ -1,9 +1,18 @@
 -- The statuses of the program, their numbers and their fault lines.
 use Rattle.std.specs.Prelude.{ℕ, List, [], ◌++◌}
+use Rattle.std.specs.Fmt.{decimal}
+use Rattle.coproc_config.specs.declared.check.SetCause.{SetCause}
+use Rattle.coproc_config.specs.declared.check.SetCause.TheVariants.{TooManyUnits, TooManyEntries, BadMask, BadAccumulator, BadField}
+use Rattle.coproc_config.specs.declared.check.SetFault.{SetFault}
 use Rattle.xif_base.specs.declared.outside.Which.{Which}
-use Rattle.xif_base.specs.declared.outside.Which.TheVariants.{Job, Image, Waveform, Trace, Log, Output}
+use Rattle.xif_base.specs.declared.outside.Which.TheVariants as which
+use Rattle.xif_image.specs.declared.image.ImageFault.{ImageFault}
+use Rattle.xif_image.specs.declared.image.ImageFault.TheVariants as image
+use Rattle.xif_job.specs.declared.field.JobFault.{JobFault}
+use Rattle.xif_job.specs.declared.field.JobFault.TheVariants as job
+use Rattle.xif_job.specs.Field.{dotted}
 use Rattle.xif_cli.specs.declared.status.Status.{Status}
-use Rattle.xif_cli.specs.declared.status.Status.TheVariants.{Done, Usage, ReadFault, WriteFault, TooBig, NoMemory, Unbuilt}
+use Rattle.xif_cli.specs.declared.status.Status.TheVariants.{Done, Usage, ReadFault, WriteFault, Job, Image, TooBig, NoMemory, Unbuilt}
 use lib.Chars.{codes}
 
 abbrev pub number_of : Status → ℕ
@@ -11,17 +20,45 @@ number_of Done = 0
 number_of Usage = 2
 number_of (ReadFault which) = 3
 number_of (WriteFault which) = 4
+number_of (Job fault) = 5
+number_of (Image fault) = 6
 number_of (TooBig which) = 9
 number_of NoMemory = 10
 number_of Unbuilt = 11
 
 abbrev pub word_of : Which → List ℕ
-word_of Job = codes "job"
-word_of Image = codes "image"
-word_of Waveform = codes "waveform"
-word_of Trace = codes "trace"
-word_of Log = codes "log"
-word_of Output = codes "output"
+word_of which.Job = codes "job"
+word_of which.Image = codes "image"
+word_of which.Waveform = codes "waveform"
+word_of which.Trace = codes "trace"
+word_of which.Log = codes "log"
+word_of which.Output = codes "output"
+
+abbrev pub cause_word : SetCause → List ℕ
+cause_word TooManyUnits = codes "units"
+cause_word TooManyEntries = codes "entries"
+cause_word BadMask = codes "mask"
+cause_word BadAccumulator = codes "accumulator"
+cause_word BadField = codes "field"
+
+-- what is said of a job's fault
+abbrev pub job_words : JobFault → List ℕ
+job_words job.NotToml = codes "not-toml"
+job_words (job.MissingField field) = codes "missing " ++ dotted field
+job_words (job.WrongKind field) = codes "kind " ++ dotted field
+job_words (job.OutOfRange field) = codes "range " ++ dotted field
+job_words job.UnknownField = codes "unknown"
+job_words (job.Set fault) =
+    codes "set " ++ cause_word fault.cause ++ codes " unit=" ++ decimal fault.unit ++ codes " entry=" ++ decimal fault.entry
+job_words job.NoMemory = codes "no memory"
+job_words job.Unbuilt = codes "unbuilt"
+
+-- what is said of an image's fault
+abbrev pub image_words : ImageFault → List ℕ
+image_words (image.BadToken at) = codes "bad-token at=" ++ decimal at
+image_words (image.Outside at) = codes "outside at=" ++ decimal at
+image_words image.Empty = codes "empty"
+image_words image.NoMemory = codes "no memory"
 
 -- what is said of a status on standard error
 abbrev pub fault_line : Status → List ℕ
@@ -29,6 +66,8 @@ fault_line Done = []
 fault_line Usage = codes "usage"
 fault_line (ReadFault which) = codes "read " ++ word_of which
 fault_line (WriteFault which) = codes "write " ++ word_of which
+fault_line (Job fault) = codes "job " ++ job_words fault
+fault_line (Image fault) = codes "image " ++ image_words fault
 fault_line (TooBig which) = codes "too-big " ++ word_of which
 fault_line NoMemory = codes "no memory"
 fault_line Unbuilt = codes "unbuilt"

@@ -1,16 +1,23 @@
-//! The command line: what its words ask for, and what is printed.
+//! The command line: what its words ask for, and what comes of it.
 //!
-//! `words` reads the words after the program's name, `report` writes what the in-order commands
-//! print. What each means stands in `specs/`.
+//! The layer above may use `xif`, which does all that the program does, and `Status`, what it ended
+//! with. The definitions stand in `specs/`: `Words` (the forms of the command line), `Outcome` (what a
+//! command comes to where nothing fails), `Run` and `Report` (what the in-order commands run and print),
+//! `Status` (numbers and fault lines) and `Answers` (what the program answers, and what stands
+//! afterwards).
 #![tactic(auto)]
 
+mod limits;
+mod print;
 mod program;
 mod raw;
+mod read;
 mod report;
 mod run;
 mod status;
+mod step;
 mod words;
 
+pub use limits::{JOB_LIMIT, RAW_IMAGE_LIMIT, RAW_LIMIT, TEXT_IMAGE_LIMIT};
 pub use program::xif;
-pub use raw::RAW_LIMIT;
 pub use status::Status;

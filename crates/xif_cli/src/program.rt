@@ -1,14 +1,17 @@
 //! The whole program, but for the words, the files and the outputs of the system.
-ghost use Rattle.std.specs.Prelude.{◌≡◌, ◌≢◌, ◌⊎◌, ◌≤◌, ◌<◌, ◌↔◌, ℕ, List, length};
-ghost use Rattle.xif_base.specs.Faults.{Rose};
-ghost use Rattle.xif_base.specs.Files.{IsMissing, HasBytes};
-ghost use Rattle.xif_base.specs.Output.{grown};
-ghost use Rattle.xif_cli.specs.Answers.{IsNoCommand, IsOtherCommand, IfRaw, HasPut, IsRefusal};
-ghost use Rattle.xif_cli.specs.Run.{raw_report};
-ghost use Rattle.xif_cli.specs.declared.raw.TheConstants.{RAW_LIMIT};
+ghost use Rattle.std.specs.Prelude.{◌≡◌, ◌≢◌, ◌⊎◌, ◌≤◌, ◌↔◌, ℕ, List, IsTrue, IfErr, OnOk};
+ghost use Rattle.std.specs.String.{string_bytes};
+ghost use Rattle.xif_base.specs.Files.{Files};
+ghost use Rattle.xif_base.specs.Output.{grown, GrowsByFront};
+ghost use Rattle.xif_cli.specs.Answers.{IsNoCommand, Means, is_built, can_end, can_refuse, IsFaulted, IsRefusalOfContent, IsRefusal, texts_of};
+ghost use Rattle.xif_cli.specs.Outcome.{found, without, outcome_of};
+ghost use Rattle.xif_cli.specs.Reading.{Ends, seen};
+ghost use Rattle.xif_cli.specs.Words.{Form, IsCommand, form_of};
 
-use crate::raw::run_raw;
+use crate::print::print;
+use crate::raw::raw_text;
 use crate::status::Status;
+use crate::step::step_text;
 use crate::words::{Command, parse_command};
 use std::alloc::Global;
 use xif_base::{Out, Shelf, Which};
@@ -16,56 +19,91 @@ use xif_base::{Out, Shelf, Which};
 /// Does what the words after the program's name ask for, with the files of `shelf` and the output
 /// `out`. Nothing else is read or written.
 pub fn xif<S: Shelf, O: Out>(alloc: Global, words: &[String], shelf: &mut S, out: &mut O) -> Status
-    // What the words ask for. Only `raw` is built yet.
+    // The words are a form of the command line, which ends only in ways of its own.
     ensures usage { (result ≡ Status.Usage) ↔ IsNoCommand words.now }
-    ensures unbuilt { (result ≡ Status.Unbuilt) ↔ IsOtherCommand words.now }
+    ensures form { result ≢ Status.Usage →
+        (form : Form) × (IsCommand (texts_of words.now) form × IsTrue (can_end form result)) }
 
-    // `raw` prints the report of the in-order machine.
-    ensures done { result ≡ Status.Done → IfRaw words.now (λ image count. (bytes : List ℕ) →
-        HasBytes (S.files shelf.old) image bytes → O.put_bytes out.new ≡ grown (O.put_bytes out.old) (raw_report bytes count)) }
+    // Over files that are told, a command is done where it comes to a text, which is printed. It
+    // refuses what a file holds where it comes to that refusal.
+    ensures done { result ≡ Status.Done → (m : Files) → S.files shelf.old ≡ Some m →
+        (text : List ℕ) × (Means words.now (found m) (Ok text)
+        × (O.put_bytes out.new ≡ grown (O.put_bytes out.old) text)) }
+    ensures refused { IsRefusalOfContent result → (m : Files) → S.files shelf.old ≡ Some m →
+        Means words.now (found m) (Err result) }
 
-    // A fault is told of a read or a write that failed, or of a file that isn't there.
-    ensures read_fault { (w : Which) → result ≡ Status.ReadFault w → IfRaw words.now (λ image count.
-        (w ≡ Which.Image) × (Rose (S.fetch_faults shelf.old) (S.fetch_faults shelf.new) ⊎ IsMissing (S.files shelf.old) image)) }
-    ensures missing { IfRaw words.now (λ image count. IsMissing (S.files shelf.old) image →
-        (result ≡ Status.ReadFault Which.Image) ⊎ (result ≡ Status.NoMemory)) }
+    // A file can't be read where a fault of the shelf was counted, or where it isn't there. What is read
+    // before it is lawful.
+    ensures read_fault { (w : Which) → result ≡ Status.ReadFault w →
+        IsFaulted (S.faultless shelf.old) (S.fetch_faults shelf.old) (S.fetch_faults shelf.new)
+        ⊎ ((m : Files) × ((S.files shelf.old ≡ Some m) × Means words.now (found m) (Err result))) }
+    ensures read_before { (w : Which) → result ≡ Status.ReadFault w →
+        (m : Files) → S.files shelf.old ≡ Some m → Means words.now (without w m) (Err result) }
+
+    // The output can't be written where a fault of it was counted. A front of the text was put.
     ensures write_fault { (w : Which) → result ≡ Status.WriteFault w →
-        (w ≡ Which.Output) × Rose (O.faults out.old) (O.faults out.new) }
+        IsFaulted (O.faultless out.old) (O.faults out.old) (O.faults out.new) }
+    ensures written { (w : Which) → result ≡ Status.WriteFault w → (m : Files) → S.files shelf.old ≡ Some m →
+        (text : List ℕ) × (Means words.now (found m) (Ok text)
+        × GrowsByFront (O.put_bytes out.old) (O.put_bytes out.new) text) }
 
-    // An image is too big where it is longer than the limit, and only there.
-    ensures too_big { (w : Which) → result ≡ Status.TooBig w → IfRaw words.now (λ image count.
-        (w ≡ Which.Image) × ((bytes : List ℕ) → HasBytes (S.files shelf.old) image bytes → RAW_LIMIT < length bytes)) }
-    ensures longer { IfRaw words.now (λ image count. (bytes : List ℕ) →
-        HasBytes (S.files shelf.old) image bytes → RAW_LIMIT < length bytes →
-        (result ≡ Status.TooBig Which.Image) ⊎ (result ≡ Status.NoMemory)
-        ⊎ Rose (S.fetch_faults shelf.old) (S.fetch_faults shelf.new)) }
+    // But for want of memory and for faults that were counted, a command ends as it comes to.
+    ensures complete { (m : Files) → S.files shelf.old ≡ Some m →
+        (text : List ℕ) → Means words.now (found m) (Ok text) →
+        (result ≡ Status.Done) ⊎ ((result ≡ Status.NoMemory)
+        ⊎ (IsFaulted (S.faultless shelf.old) (S.fetch_faults shelf.old) (S.fetch_faults shelf.new)
+        ⊎ IsFaulted (O.faultless out.old) (O.faults out.old) (O.faults out.new))) }
+    ensures refuses { (m : Files) → S.files shelf.old ≡ Some m →
+        (status : Status) → Means words.now (found m) (Err status) →
+        (result ≡ status) ⊎ ((result ≡ Status.NoMemory)
+        ⊎ IsFaulted (S.faultless shelf.old) (S.fetch_faults shelf.old) (S.fetch_faults shelf.new)) }
 
-    // No other refusal comes of a file within its limit.
-    ensures complete { IfRaw words.now (λ image count. (bytes : List ℕ) →
-        HasBytes (S.files shelf.old) image bytes → length bytes ≤ RAW_LIMIT →
-        (result ≡ Status.Done) ⊎ (result ≡ Status.NoMemory)
-        ⊎ Rose (S.fetch_faults shelf.old) (S.fetch_faults shelf.new) ⊎ Rose (O.faults out.old) (O.faults out.new)) }
-
-    // What stands afterwards: the files as they were; of the report all, a front or nothing.
-    ensures put { IfRaw words.now (λ image count. (bytes : List ℕ) →
-        HasBytes (S.files shelf.old) image bytes → HasPut result (O.put_bytes out.old) (O.put_bytes out.new) (raw_report bytes count)) }
+    // What stands afterwards: the files as they were; of the text all, a front or nothing.
+    ensures no_memory { result ≡ Status.NoMemory → (m : Files) → S.files shelf.old ≡ Some m →
+        (O.put_bytes out.new ≡ O.put_bytes out.old)
+        ⊎ ((text : List ℕ) × (Means words.now (found m) (Ok text)
+        × GrowsByFront (O.put_bytes out.old) (O.put_bytes out.new) text)) }
     ensures refusal { IsRefusal result → out.new ≡ out.old }
     ensures files { S.files shelf.new ≡ S.files shelf.old }
     ensures write_count { S.write_faults shelf.new ≡ S.write_faults shelf.old }
     ensures fetches { S.fetch_faults shelf.old ≤ S.fetch_faults shelf.new }
     ensures puts { O.faults out.old ≤ O.faults out.new }
 
-    // A shelf and an output that say they have no faults earn none, and no fault is told of them.
+    // A shelf and an output that say they have no faults earn none.
     ensures no_fetch_fault { S.faultless shelf.old → S.fetch_faults shelf.new ≡ S.fetch_faults shelf.old }
     ensures no_put_fault { O.faultless out.old → O.faults out.new ≡ O.faults out.old }
-    ensures reads { S.faultless shelf.old → (w : Which) → result ≡ Status.ReadFault w → IfRaw words.now
-        (λ image count. IsMissing (S.files shelf.old) image) }
-    ensures writes { O.faultless out.old → (w : Which) → result ≢ Status.WriteFault w }
 {
     match parse_command(words) {
         None => Status::Usage,
-        Some(Command::Raw { image, count }) => run_raw(alloc, image, count, shelf, out),
-        Some(_) => Status::Unbuilt,
+        Some(command) => match text_of(alloc, command, shelf) {
+            Ok(text) => print(text.as_str(), out),
+            Err(status) => status,
+        },
+    }
+}
+
+// The text that a command prints.
+fn text_of<S: Shelf>(
+    alloc: Global,
+    command: Command<'_>,
+    shelf: &mut S,
+) -> Result<String, Status>
+    ensures told { (m : Files) → S.files shelf.old ≡ Some m →
+        Ends (IsFaulted (S.faultless shelf.old) (S.fetch_faults shelf.old) (S.fetch_faults shelf.new)) m
+        (outcome_of (form_of command.entry)) (seen string_bytes result) }
+    ensures untold { S.files shelf.old ≡ None → (w : Which) → result ≡ Err (Status.ReadFault w) →
+        IsFaulted (S.faultless shelf.old) (S.fetch_faults shelf.old) (S.fetch_faults shelf.new) }
+    ensures ok { OnOk result (IsTrue (is_built (form_of command.entry))) }
+    ensures refusal { IfErr result (λ status. IsTrue (can_refuse (form_of command.entry) status)) }
+    ensures files { S.files shelf.new ≡ S.files shelf.old }
+    ensures writes { S.write_faults shelf.new ≡ S.write_faults shelf.old }
+    ensures count { S.fetch_faults shelf.old ≤ S.fetch_faults shelf.new }
+    ensures no_fault { S.faultless shelf.old → S.fetch_faults shelf.new ≡ S.fetch_faults shelf.old }
+{
+    match command {
+        Command::Raw { image, count } => raw_text(alloc, image, count, shelf),
+        Command::Step { job } => step_text(alloc, job, shelf),
+        _ => Err(Status::Unbuilt),
     }
 }
 

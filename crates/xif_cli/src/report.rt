@@ -1,8 +1,9 @@
 //! What the in-order commands print.
 ghost use Rattle.std.specs.Prelude.{◌≡◌, ◌<◌, ◌*◌, ◌+◌, ◌^◌, ◌++◌, OnOk, IfOk, Some, slice_index};
 ghost use Rattle.std.specs.String.{string_bytes};
-ghost use Rattle.xif_cli.specs.Report.{hex_word, end_word, outcome_text, register_line, register_lines, word_of, memory_line, memory_lines, report_of};
+ghost use Rattle.xif_cli.specs.Report.{hex_word, hex_double, end_word, outcome_text, register_line, register_lines, accumulator_line, unit_lines, accumulator_lines, word_of, memory_line, memory_lines, report_of};
 
+use coproc_config::UnitState;
 use inorder_machine::{Machine, StopCause};
 use std::alloc::{AllocError, Global};
 use std::fmt;
@@ -23,6 +24,7 @@ pub(crate) fn report(
     push_outcome(&mut text, stop, machine.pc(), retired)?;
     text.push_str("\n")?;
     push_registers(&mut text, machine.registers())?;
+    push_accumulators(&mut text, machine.state())?;
     push_memory(&mut text, before, machine.memory())?;
     Ok(text)
 }
@@ -80,6 +82,36 @@ fn push_register(text: &mut String, number: usize, value: u32) -> Result<(), All
     writeln!(text, "x{number}={}", HexWord(value))
 }
 
+// Appends the lines of the accumulators of all units.
+fn push_accumulators(text: &mut String, state: &UnitState) -> Result<(), AllocError>
+    ensures { OnOk result (string_bytes text.new ≡ string_bytes text.old ++ accumulator_lines state.now) }
+{
+    for unit in 0..state.len() {
+        push_unit(text, unit, state.unit(unit))?;
+    }
+    Ok(())
+}
+
+// Appends the lines of a unit's accumulators.
+fn push_unit(text: &mut String, unit: usize, accumulators: &[u64]) -> Result<(), AllocError>
+    ensures { OnOk result (string_bytes text.new ≡ string_bytes text.old ++ unit_lines unit accumulators.now) }
+{
+    for (number, value) in accumulators.iter().enumerate() {
+        push_accumulator(text, unit, number, *value)?;
+    }
+    Ok(())
+}
+
+// Appends the line of one accumulator.
+fn push_accumulator(text: &mut String, unit: usize, number: usize, value: u64) -> Result<(), AllocError>
+    ensures { OnOk result (string_bytes text.new ≡ string_bytes text.old ++ accumulator_line unit number value) }
+{
+    if value == 0 {
+        return Ok(());
+    }
+    writeln!(text, "u{unit}.a{number}={}", HexDouble(value))
+}
+
 // Appends the lines of the words of memory that changed.
 fn push_memory(text: &mut String, before: &[u8], memory: &Memory) -> Result<(), AllocError>
     ensures { OnOk result (string_bytes text.new ≡ string_bytes text.old ++ memory_lines before.now memory.now) }
@@ -120,6 +152,18 @@ fn byte_at(bytes: &[u8], at: usize) -> u8
     ensures { result ≡ slice_index bytes.now at }
 {
     bytes.get(at).copied().unwrap_or(0)
+}
+
+// A double word as it is printed: sixteen hexadecimal digits after 0x.
+#[derive(Clone, Copy)]
+struct HexDouble(u64);
+
+impl fmt::Display for HexDouble {
+    ghost output = { λ double. Some (hex_double double.0) };
+
+    fn fmt<W: fmt::Write>(&self, f: &mut fmt::Formatter<W>) -> fmt::Result {
+        write!(f, "0x{:016x}", self.0)
+    }
 }
 
 // A word as it is printed: eight hexadecimal digits after 0x.

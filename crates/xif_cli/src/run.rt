@@ -5,7 +5,8 @@ ghost use Rattle.xif_base.specs.Params.{IsInRange};
 ghost use Rattle.coproc_config.specs.Check.{IsLawful};
 ghost use Rattle.coproc_config.specs.State.{IsStateOf};
 ghost use Rattle.inorder_machine.specs.Machine.{Extension};
-ghost use Rattle.xif_cli.specs.Run.{raw_start, run_report};
+ghost use Rattle.xif_job.specs.Ranges.{IsLawfulMemory};
+ghost use Rattle.xif_cli.specs.Run.{raw_start, step_start, run_report};
 
 use crate::report::report;
 use coproc_config::{Set, UnitState};
@@ -13,6 +14,7 @@ use inorder_machine::Machine;
 use std::alloc::Global;
 use xif_base::{NoMemory, Params};
 use xif_image::{Image, ImageFault, Memory};
+use xif_job::Job;
 
 /// The machine at the start of `raw`: the image at address 0, where the first instruction is. `set`
 /// is empty.
@@ -30,6 +32,19 @@ pub(crate) fn raw_machine(alloc: Global, image: &[u8], set: &Set) -> Result<Mach
         Err(_) => unreachable!(),
     }
     Ok(Machine::new(memory, 0, UnitState::new(alloc, set)?))
+}
+
+/// The machine at the start of `step`: the image in a memory of zeros, and the first instruction at
+/// the job's entry.
+pub(crate) fn step_machine(alloc: Global, job: &Job, image: &Image) -> Result<Machine, NoMemory>
+    requires memory { IsLawfulMemory job.now.base job.now.size }
+    requires image { (image.now.base ≡ job.now.base) × (image.now.size ≡ job.now.size) }
+    ensures start { IfOk result (λ machine. machine ≡ step_start job.now image.now) }
+    ensures units { IfOk result (λ machine. IsStateOf job.now.set machine.units) }
+{
+    let mut memory = Memory::new(alloc, job.base, job.size)?;
+    memory.place(image);
+    Ok(Machine::new(memory, job.entry, UnitState::new(alloc, &job.set)?))
 }
 
 /// The report of a run of at most `budget` retirements.

@@ -1,9 +1,12 @@
 //! What a command ended with.
 ghost use Rattle.std.specs.Prelude.{◌≡◌, ◌≢◌, ◌↔◌, IsTrue};
-ghost use Rattle.xif_cli.specs.Status.{number_of, word_of};
+ghost use Rattle.xif_cli.specs.Status.{number_of, word_of, cause_word};
 
+use coproc_config::SetCause;
 use std::fmt;
-use xif_base::Which;
+use xif_base::{NoMemory, Which};
+use xif_image::ImageFault;
+use xif_job::JobFault;
 
 /// What a call of the program ended with. Each has its number, which is the exit status.
 #[derive(Clone, Copy, Debug, PartialEq, Eq)]
@@ -16,6 +19,10 @@ pub enum Status {
     ReadFault(Which),
     /// A file, or the output, could not be written.
     WriteFault(Which),
+    /// The job's file is no TOML, or breaks a rule of its fields.
+    Job(JobFault),
+    /// The image's file breaks the form of its kind, or lies outside the memory.
+    Image(ImageFault),
     /// A file is longer than its limit.
     TooBig(Which),
     /// There was no memory left.
@@ -34,6 +41,8 @@ impl Status {
             Status::Usage => 2,
             Status::ReadFault(_) => 3,
             Status::WriteFault(_) => 4,
+            Status::Job(_) => 5,
+            Status::Image(_) => 6,
             Status::TooBig(_) => 9,
             Status::NoMemory => 10,
             Status::Unbuilt => 11,
@@ -45,6 +54,46 @@ impl Status {
         ensures { IsTrue result ↔ (self.now ≢ Status.Done) }
     {
         *self != Status::Done
+    }
+}
+
+impl From<NoMemory> for Status {
+    ghost use Rattle.std.specs.Prelude.{◌≡◌};
+    ghost use Rattle.xif_cli.specs.declared.status.Status.TheVariants.{NoMemory};
+
+    ghost from_gives = { λ _ status. status ≡ NoMemory };
+
+    fn from(_: NoMemory) -> Self {
+        Status::NoMemory
+    }
+}
+
+impl From<JobFault> for Status {
+    ghost use Rattle.std.specs.Prelude.{◌≡◌};
+    ghost use Rattle.xif_cli.specs.Outcome.{job_status};
+
+    ghost from_gives = { λ fault status. status ≡ job_status fault };
+
+    fn from(fault: JobFault) -> Self {
+        match fault {
+            JobFault::NoMemory => Status::NoMemory,
+            JobFault::Unbuilt => Status::Unbuilt,
+            fault => Status::Job(fault),
+        }
+    }
+}
+
+impl From<ImageFault> for Status {
+    ghost use Rattle.std.specs.Prelude.{◌≡◌};
+    ghost use Rattle.xif_cli.specs.Outcome.{image_status};
+
+    ghost from_gives = { λ fault status. status ≡ image_status fault };
+
+    fn from(fault: ImageFault) -> Self {
+        match fault {
+            ImageFault::NoMemory => Status::NoMemory,
+            fault => Status::Image(fault),
+        }
     }
 }
 
@@ -61,6 +110,8 @@ impl fmt::Display for Status {
             Status::Usage => f.write_str("usage"),
             Status::ReadFault(which) => write!(f, "read {}", word_of(*which)),
             Status::WriteFault(which) => write!(f, "write {}", word_of(*which)),
+            Status::Job(fault) => write!(f, "job {}", JobWords(*fault)),
+            Status::Image(fault) => write!(f, "image {}", ImageWords(*fault)),
             Status::TooBig(which) => write!(f, "too-big {}", word_of(*which)),
             Status::NoMemory => f.write_str("no memory"),
             Status::Unbuilt => f.write_str("unbuilt"),
@@ -79,5 +130,65 @@ fn word_of(which: Which) -> &'static str
         Which::Trace => "trace",
         Which::Log => "log",
         Which::Output => "output",
+    }
+}
+
+// What is said of a job's fault.
+#[derive(Clone, Copy)]
+struct JobWords(JobFault);
+
+impl fmt::Display for JobWords {
+    ghost use Rattle.std.specs.Prelude.{Some};
+    ghost use Rattle.xif_cli.specs.Status.{job_words};
+
+    ghost output = { λ words. Some (job_words words.0) };
+
+    fn fmt<W: fmt::Write>(&self, f: &mut fmt::Formatter<W>) -> fmt::Result {
+        match self.0 {
+            JobFault::NotToml => f.write_str("not-toml"),
+            JobFault::MissingField(field) => write!(f, "missing {}", field.name()),
+            JobFault::WrongKind(field) => write!(f, "kind {}", field.name()),
+            JobFault::OutOfRange(field) => write!(f, "range {}", field.name()),
+            JobFault::UnknownField => f.write_str("unknown"),
+            JobFault::Set(fault) => {
+                let cause = cause_word(fault.cause);
+                write!(f, "set {cause} unit={} entry={}", fault.unit, fault.entry)
+            }
+            JobFault::NoMemory => f.write_str("no memory"),
+            JobFault::Unbuilt => f.write_str("unbuilt"),
+        }
+    }
+}
+
+// The word for what is wrong with a set of units.
+fn cause_word(cause: SetCause) -> &'static str
+    ensures { result.now ≡ cause_word cause }
+{
+    match cause {
+        SetCause::TooManyUnits => "units",
+        SetCause::TooManyEntries => "entries",
+        SetCause::BadMask => "mask",
+        SetCause::BadAccumulator => "accumulator",
+        SetCause::BadField => "field",
+    }
+}
+
+// What is said of an image's fault.
+#[derive(Clone, Copy)]
+struct ImageWords(ImageFault);
+
+impl fmt::Display for ImageWords {
+    ghost use Rattle.std.specs.Prelude.{Some};
+    ghost use Rattle.xif_cli.specs.Status.{image_words};
+
+    ghost output = { λ words. Some (image_words words.0) };
+
+    fn fmt<W: fmt::Write>(&self, f: &mut fmt::Formatter<W>) -> fmt::Result {
+        match self.0 {
+            ImageFault::BadToken { at } => write!(f, "bad-token at={at}"),
+            ImageFault::Outside { at } => write!(f, "outside at={at}"),
+            ImageFault::Empty => f.write_str("empty"),
+            ImageFault::NoMemory => f.write_str("no memory"),
+        }
     }
 }

@@ -1,6 +1,6 @@
 ghost use Rattle.std.specs.Prelude.{◌≡◌, ◌≤◌, ◌<◌, ◌+◌, ◌^◌, ◌⊎◌, ℕ, length, IfOk, IfErr, OnOk, All, EachIndex};
 ghost use Rattle.std.specs.Option.{SomeIff};
-ghost use Rattle.xif_image.specs.Image.{bytes_from, IsWithin, IsFirstOutside};
+ghost use Rattle.xif_image.specs.Image.{bytes_from, IsWithin, IsFirstOutside, raw_image};
 ghost use Rattle.xif_image.specs.Text.{text_image};
 
 use crate::text::read;
@@ -86,6 +86,11 @@ impl Image {
         ensures outside { (at : ℕ) → result ≡ Err (ImageFault.Outside at) → IsFirstOutside base size load (length bytes.now) at }
         ensures fault { IfErr result (λ fault.
             (fault ≡ ImageFault.NoMemory) ⊎ ((at : ℕ) × (fault ≡ ImageFault.Outside at))) }
+
+        // The same as one meaning of the bytes.
+        ensures exact { IfOk result (λ image. raw_image load base size bytes.now ≡ Ok image) }
+        ensures exact_fault { IfErr result (λ fault.
+            (fault ≡ ImageFault.NoMemory) ⊎ (raw_image load base size bytes.now ≡ Err fault)) }
     {
         let mut placed = Vec::with_capacity(alloc, bytes.len())?;
         for (at, value) in bytes.iter().enumerate() {

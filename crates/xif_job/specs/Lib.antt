@@ -4,3 +4,4 @@ pub mod Readers
 pub mod Tables
 pub mod Document
 pub mod FieldTable
+pub mod Ranges

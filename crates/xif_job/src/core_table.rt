@@ -1,8 +1,9 @@
 // The core of a job, and its predictor.
-ghost use Rattle.std.specs.Prelude.{◌≡◌, ◌≤◌, ◌∷◌, [], ◌^◌, min, option_map};
+ghost use Rattle.std.specs.Prelude.{◌≡◌, ◌≤◌, ◌∷◌, [], ◌^◌, IfOk, min, option_map};
 ghost use Rattle.toml.specs.View.{table_view, view};
 ghost use Rattle.xif_job.specs.FieldTable.{core_of, predictor_of, kind_of};
 ghost use Rattle.xif_job.specs.Outcome.{Gives};
+ghost use Rattle.xif_job.specs.Ranges.{IsLawfulWindow, IsLawfulBudget};
 
 use crate::addresses::Addresses;
 use crate::readers::{choice, find, number, number_u8, numbers, table};
@@ -44,7 +45,9 @@ pub(crate) struct Core {
 #[tactic(auto, unfolding(crate::specs::FieldTable::core_of))]
 pub(crate) fn read_core(alloc: Global, top: &Table, id_width: u8) -> Result<Core, JobFault>
     requires { 3 ≤ id_width }
-    ensures { Gives (λ c. c) result (core_of id_width (table_view top.now)) }
+    ensures value { Gives (λ c. c) result (core_of id_width (table_view top.now)) }
+    ensures window { IfOk result (λ c. IsLawfulWindow id_width c.window) }
+    ensures budget { IfOk result (λ c. IsLawfulBudget c.budget) }
 {
     let names = ["window", "budget", "predictor", "bits", "targets"];
     let table = table(Field::CoreWindow, &names, find(Some(top), "core"))?;

@@ -1,5 +1,5 @@
 // The image of a job, and where it starts.
-ghost use Rattle.std.specs.Prelude.{◌≡◌, ◌≤◌, ◌-◌, ◌^◌, option_map};
+ghost use Rattle.std.specs.Prelude.{◌≡◌, ◌≤◌, ◌-◌, ◌%◌, ◌^◌, IfOk, option_map};
 ghost use Rattle.toml.specs.Data.{get_member};
 ghost use Rattle.toml.specs.View.{table_view, view};
 ghost use Rattle.xif_job.specs.FieldTable.{image_of, image_file_of, image_kind_of};
@@ -46,7 +46,8 @@ pub(crate) fn read_image(
     base: u32,
 ) -> Result<Image, JobFault>
     requires { base ≤ 2 ^ 32 - 4 }
-    ensures { Gives (λ i. i) result (image_of needs_image base (table_view top.now)) }
+    ensures value { Gives (λ i. i) result (image_of needs_image base (table_view top.now)) }
+    ensures entry { IfOk result (λ i. i.entry % 4 ≡ 0) }
 {
     let names = ["file", "kind", "load", "entry"];
     let table = table(Field::ImageFile, &names, find(Some(top), "image"))?;

@@ -1,11 +1,12 @@
 // A job: what one run of the simulator is to do.
-ghost use Rattle.std.specs.Prelude.{◌≡◌, IfOk};
+ghost use Rattle.std.specs.Prelude.{◌≡◌, ◌%◌, IfOk};
 ghost use Rattle.std.specs.Str.{bytes_eq};
 ghost use Rattle.coproc_config.specs.Check.{IsLawful};
 ghost use Rattle.xif_base.specs.Params.{IsInRange};
 ghost use Rattle.toml.specs.View.{table_view};
 ghost use Rattle.xif_job.specs.FieldTable.{job_of, differ, is_unbuilt, all_of, read_of};
 ghost use Rattle.xif_job.specs.Outcome.{Gives};
+ghost use Rattle.xif_job.specs.Ranges.{IsLawfulMemory, IsLawfulWindow, IsLawfulBudget};
 
 use crate::core_table::{Kind, read_core};
 use crate::document::document;
@@ -52,6 +53,10 @@ impl Job {
         ensures exact { Gives (λ job. job) result (read_of needs_image bytes.now) }
         ensures in_range { IfOk result (λ job. IsInRange job.params) }
         ensures lawful { IfOk result (λ job. IsLawful job.set) }
+        ensures memory { IfOk result (λ job. IsLawfulMemory job.base job.size) }
+        ensures entry { IfOk result (λ job. job.entry % 4 ≡ 0) }
+        ensures window { IfOk result (λ job. IsLawfulWindow job.params.id_width job.window) }
+        ensures budget { IfOk result (λ job. IsLawfulBudget job.budget) }
     {
         match document(alloc, bytes) {
             Err(fault) => Err(fault),
@@ -65,6 +70,10 @@ fn read_all(alloc: Global, top: &Table, needs_image: bool) -> Result<Job, JobFau
     ensures exact { Gives (λ job. job) result (all_of needs_image (table_view top.now)) }
     ensures in_range { IfOk result (λ job. IsInRange job.params) }
     ensures lawful { IfOk result (λ job. IsLawful job.set) }
+    ensures memory { IfOk result (λ job. IsLawfulMemory job.base job.size) }
+    ensures entry { IfOk result (λ job. job.entry % 4 ≡ 0) }
+    ensures window { IfOk result (λ job. IsLawfulWindow job.params.id_width job.window) }
+    ensures budget { IfOk result (λ job. IsLawfulBudget job.budget) }
 {
     if has_unbuilt(top) {
         return Err(JobFault::Unbuilt);
@@ -89,6 +98,10 @@ fn read_job(alloc: Global, top: &Table, needs_image: bool) -> Result<Job, JobFau
     ensures exact { Gives (λ job. job) result (job_of needs_image (table_view top.now)) }
     ensures in_range { IfOk result (λ job. IsInRange job.params) }
     ensures lawful { IfOk result (λ job. IsLawful job.set) }
+    ensures memory { IfOk result (λ job. IsLawfulMemory job.base job.size) }
+    ensures entry { IfOk result (λ job. job.entry % 4 ≡ 0) }
+    ensures window { IfOk result (λ job. IsLawfulWindow job.params.id_width job.window) }
+    ensures budget { IfOk result (λ job. IsLawfulBudget job.budget) }
 {
     let params = read_params(top)?;
     let memory = read_memory(top)?;

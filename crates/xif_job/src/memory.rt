@@ -3,6 +3,7 @@ ghost use Rattle.std.specs.Prelude.{◌≡◌, ◌≤◌, ◌-◌, ◌^◌, IfOk
 ghost use Rattle.toml.specs.View.{table_view};
 ghost use Rattle.xif_job.specs.FieldTable.{memory_of};
 ghost use Rattle.xif_job.specs.Outcome.{Gives};
+ghost use Rattle.xif_job.specs.Ranges.{IsLawfulMemory};
 
 use crate::readers::{demand, find, table, word};
 use crate::{Field, JobFault};
@@ -20,6 +21,7 @@ pub(crate) struct MemoryRange {
 pub(crate) fn read_memory(top: &Table) -> Result<MemoryRange, JobFault>
     ensures value { Gives (λ m. m) result (memory_of (table_view top.now)) }
     ensures base { IfOk result (λ m. m.base ≤ 2 ^ 32 - 4) }
+    ensures ranges { IfOk result (λ m. IsLawfulMemory m.base m.size) }
 {
     let table = table(
         Field::MemoryBase,

@@ -80,6 +80,7 @@ pub(crate) fn word(
     requires { IfSome absent (λ n. (low ≤ n) × (n ≤ high)) }
     ensures value { result ≡ word_in field low high absent (option_map (λ v. view v.now) value.entry) }
     ensures within { IfOk result (λ n. (low ≤ n) × (n ≤ high)) }
+    ensures aligned { IfOk result (λ n. n % 4 ≡ 0) }
 {
     let word = number(field, low, high, absent, value)?;
     demand(field, word % 4 == 0)?;

@@ -36,10 +36,13 @@ places (suc n) =
 
 -- ---- the digits as they are read
 
+zero_or_one : (x : Bool) (ds : List Digit) → filler (cond x Zero One ∷ ds) ≡ Zero
+zero_or_one true ds = refl
+zero_or_one false ds = refl
+
 filled : (ds : List ℕ) → 0 < length ds → filler (map bit_digit ds) ≡ Zero
 filled [] h = absurd (omega arith)
-filled (zero ∷ ds) h = refl
-filled (suc d ∷ ds) h = refl
+filled (d ∷ ds) h = zero_or_one (d == 0) (map bit_digit ds)
 
 only_zero : (i : ℕ) → get_or (Zero ∷ []) i Zero ≡ Zero
 only_zero zero = refl
@@ -92,9 +95,12 @@ whole v (suc w) h =
     let rest : number_from g (0 + 1) w ≡ v / 2 = shifted g (λ i. value_of (place (v / 2) i)) (λ i. ap value_of (p.next i)) 0 w ∙ whole (v / 2) w (halved v w h) in
     ap (λ n. n + 2 * number_from g (0 + 1) w) low ∙ ap (λ n. v % 2 + 2 * n) rest ∙ (omega arith)
 
+known_by : (x : Bool) → unknown_of (cond x Zero One) ≡ 0
+known_by true = refl
+known_by false = refl
+
 known_digit : (b : ℕ) → unknown_of (bit_digit b) ≡ 0
-known_digit zero = refl
-known_digit (suc b) = refl
+known_digit b = known_by (b == 0)
 
 known_place : (v i : ℕ) → unknown_of (place v i) ≡ 0
 known_place v zero = ap unknown_of (places v).here ∙ known_digit (v % 2)

@@ -77,7 +77,7 @@ Same p h a b k [] = Unit {0}
 Same p h a b k (s ∷ ss) = (is_same a b s ≡ true → quad_from (last_digits k h) 0 (width_of s p) ≡ known_quad (value_in b s)) × Same p h a b (k + 1) ss
 
 -- behind a history, each signal has its value
-pub Has : Params → List Item → List Quad → ℕ → List Signal → Type 0
+unfoldable pub Has : Params → List Item → List Quad → ℕ → List Signal → Type 0
 Has p h b k [] = Unit {0}
 Has p h b k (s ∷ ss) = (quad_from (last_digits k h) 0 (width_of s p) ≡ known_quad (value_in b s)) × Has p h b (k + 1) ss
 

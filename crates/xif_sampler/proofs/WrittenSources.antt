@@ -152,8 +152,8 @@ found_in p all k s e =
     ∙ ap (λ vs. bits_of s w 0 None (variable_of s vs)) e
     ∙ ap (λ x. cond x (Err (Narrow s)) (Ok (Bits k 0 w))) (fits w)
 
-next_is : (source : Result Source MapFault) (rest : Result (List Source) MapFault) (a : Source) (as : List Source) → source ≡ Ok a → rest ≡ Ok as → with_next source rest ≡ Ok (a ∷ as)
-next_is source rest a as e f = ap (λ x. with_next x rest) e ∙ ap (with_next (Ok a)) f
+next_is : (source : Result Source MapFault) (rest : Result (List Source) MapFault) (first : Source) (more : List Source) → source ≡ Ok first → rest ≡ Ok more → with_next source rest ≡ Ok (first ∷ more)
+next_is source rest first more e f = ap (λ x. with_next x rest) e ∙ ap (with_next (Ok first)) f
 
 -- ---- all sources
 

@@ -14,6 +14,7 @@ mod find;
 mod items;
 mod keeping;
 mod place;
+mod read_back;
 mod sampler;
 mod source;
 #[cfg(test)]
@@ -22,4 +23,5 @@ mod tests;
 pub use fault::{MapFail, MapFault};
 pub use items::sample_items;
 pub use place::{Place, SignalMap};
+pub use read_back::written_buses_sample_back;
 pub use sampler::Sampler;

@@ -6,19 +6,7 @@ use vcd_text::{Declarations, Digit, Digits, Item, Variable};
 use xif_base::{Name, NoMemory, Params};
 use xif_signals::{Quad, Sample, Signal};
 
-const NARROW: Params = Params {
-    num_rs: 2,
-    id_width: 3,
-    rfr_width: 32,
-    rfw_width: 32,
-    num_harts: 1,
-    hartid_width: 1,
-    dual_read: 0,
-    dual_write: false,
-    split: true,
-};
-
-const WIDE: Params = Params {
+const PARAMS: Params = Params {
     num_rs: 2,
     id_width: 3,
     rfr_width: 64,
@@ -29,6 +17,9 @@ const WIDE: Params = Params {
     dual_write: false,
     split: true,
 };
+
+/// The bits of a signal: its number, and which bits are unknown.
+type Bits = (Signal, u64, u64);
 
 /// An item as it is written here.
 #[derive(Clone, Copy)]
@@ -73,15 +64,19 @@ fn digits_of(alloc: Global, text: &str) -> Result<Digits, NoMemory> {
 fn items_of(alloc: Global, lines: &[Line]) -> Result<Vec<Item>, Fail> {
     let mut items = Vec::new(alloc);
     for line in lines {
-        items.push(match line {
-            Line::At(t) => Item::Time(*t),
-            Line::Is(code, text) => Item::Change {
-                code: *code,
-                digits: digits_of(alloc, text)?,
-            },
-        })?;
+        items.push(item_of(alloc, *line)?)?;
     }
     Ok(items)
+}
+
+fn item_of(alloc: Global, line: Line) -> Result<Item, NoMemory> {
+    Ok(match line {
+        Line::At(t) => Item::Time(t),
+        Line::Is(code, text) => Item::Change {
+            code,
+            digits: digits_of(alloc, text)?,
+        },
+    })
 }
 
 /// The map that has these places, and 0 for all other signals.
@@ -109,7 +104,7 @@ fn place_of(alloc: Global, spot: &Spot) -> Result<Place, NoMemory> {
 }
 
 /// Whether these signals have these bits, and all others are 0.
-fn shows(sample: &Sample, table: &[(Signal, u64, u64)]) -> bool {
+fn shows(sample: &Sample, table: &[Bits]) -> bool {
     for signal in Signal::all() {
         if signal == Signal::Clk {
             continue;
@@ -133,328 +128,411 @@ fn shows(sample: &Sample, table: &[(Signal, u64, u64)]) -> bool {
     true
 }
 
-/// A waveform of packed signals, which are unknown at first.
+/// The samples of these items, by a map of these places among these variables.
+fn run(
+    alloc: Global,
+    variables: &[(&'static str, u32, u32)],
+    places: &[(Signal, Spot)],
+    items: &[Item],
+) -> Result<Vec<Sample>, Fail> {
+    let declarations = declared(alloc, variables)?;
+    let map = map_of(alloc, places)?;
+    Ok(sample_items(alloc, &map, &declarations, &PARAMS, items)?)
+}
+
+// A waveform of packed signals, which are unknown at first.
+
+const PACKED: [(&str, u32, u32); 6] = [
+    ("top.clk", 0, 1),
+    ("top.rst_n", 1, 1),
+    ("top.xif.issue_valid", 2, 1),
+    ("top.xif.issue_ready", 3, 1),
+    ("top.xif.issue_req", 4, 36),
+    ("top.xif.issue_resp", 5, 4),
+];
+
+const PACKED_PLACES: [(Signal, Spot); 10] = [
+    (Signal::Clk, Spot::Named("top.clk", 0, None)),
+    (Signal::RstN, Spot::Named("top.rst_n", 0, None)),
+    (
+        Signal::IssueValid,
+        Spot::Named("top.xif.issue_valid", 0, None),
+    ),
+    (
+        Signal::IssueReady,
+        Spot::Named("top.xif.issue_ready", 0, None),
+    ),
+    (
+        Signal::IssueInstr,
+        Spot::Named("top.xif.issue_req", 4, Some(35)),
+    ),
+    (
+        Signal::IssueHartid,
+        Spot::Named("top.xif.issue_req", 3, Some(3)),
+    ),
+    (
+        Signal::IssueId,
+        Spot::Named("top.xif.issue_req", 0, Some(2)),
+    ),
+    (
+        Signal::IssueAccept,
+        Spot::Named("top.xif.issue_resp", 3, Some(3)),
+    ),
+    (
+        Signal::IssueWriteback,
+        Spot::Named("top.xif.issue_resp", 2, Some(2)),
+    ),
+    (
+        Signal::IssueRegisterRead,
+        Spot::Named("top.xif.issue_resp", 0, Some(1)),
+    ),
+];
+
+const PACKED_LINES: [Line; 28] = [
+    Line::At(0),
+    Line::Is(0, "x"),
+    Line::Is(1, "0"),
+    Line::Is(2, "x"),
+    Line::Is(3, "x"),
+    Line::Is(4, "x"),
+    Line::Is(5, "x"),
+    Line::Is(0, "0"),
+    Line::At(5),
+    Line::Is(0, "1"),
+    Line::Is(1, "1"),
+    Line::Is(2, "0"),
+    Line::Is(3, "0"),
+    Line::At(10),
+    Line::Is(0, "0"),
+    Line::At(15),
+    Line::Is(0, "1"),
+    Line::Is(2, "1"),
+    Line::Is(3, "1"),
+    Line::Is(4, "1110000000010110010"),
+    Line::Is(5, "0"),
+    Line::At(20),
+    Line::Is(0, "0"),
+    Line::At(25),
+    Line::Is(0, "1"),
+    Line::Is(5, "100"),
+    Line::At(30),
+    Line::Is(0, "0"),
+];
+
+const PACKED_SAMPLES: [[Bits; 9]; 3] = [
+    [
+        (Signal::RstN, 0, 0),
+        (Signal::IssueValid, 0, 1),
+        (Signal::IssueReady, 0, 1),
+        (Signal::IssueHartid, 0, 1),
+        (Signal::IssueId, 0, 7),
+        (Signal::IssueInstr, 0, 0xffff_ffff),
+        (Signal::IssueAccept, 0, 1),
+        (Signal::IssueWriteback, 0, 1),
+        (Signal::IssueRegisterRead, 0, 3),
+    ],
+    [
+        (Signal::RstN, 1, 0),
+        (Signal::IssueValid, 0, 0),
+        (Signal::IssueReady, 0, 0),
+        (Signal::IssueHartid, 0, 1),
+        (Signal::IssueId, 0, 7),
+        (Signal::IssueInstr, 0, 0xffff_ffff),
+        (Signal::IssueAccept, 0, 1),
+        (Signal::IssueWriteback, 0, 1),
+        (Signal::IssueRegisterRead, 0, 3),
+    ],
+    [
+        (Signal::RstN, 1, 0),
+        (Signal::IssueValid, 1, 0),
+        (Signal::IssueReady, 1, 0),
+        (Signal::IssueHartid, 0, 0),
+        (Signal::IssueId, 2, 0),
+        (Signal::IssueInstr, 0x700b, 0),
+        (Signal::IssueAccept, 0, 0),
+        (Signal::IssueWriteback, 0, 0),
+        (Signal::IssueRegisterRead, 0, 0),
+    ],
+];
+
 #[test]
 fn packed_signals(rt: HostRuntime) -> Result<(), Fail> {
-    let variables = [
-        ("top.clk", 0, 1),
-        ("top.rst_n", 1, 1),
-        ("top.xif.issue_valid", 2, 1),
-        ("top.xif.issue_ready", 3, 1),
-        ("top.xif.issue_req", 4, 36),
-        ("top.xif.issue_resp", 5, 4),
-    ];
-    let places = [
-        (Signal::Clk, Spot::Named("top.clk", 0, None)),
-        (Signal::RstN, Spot::Named("top.rst_n", 0, None)),
-        (
-            Signal::IssueValid,
-            Spot::Named("top.xif.issue_valid", 0, None),
-        ),
-        (
-            Signal::IssueReady,
-            Spot::Named("top.xif.issue_ready", 0, None),
-        ),
-        (
-            Signal::IssueInstr,
-            Spot::Named("top.xif.issue_req", 4, Some(35)),
-        ),
-        (
-            Signal::IssueHartid,
-            Spot::Named("top.xif.issue_req", 3, Some(3)),
-        ),
-        (
-            Signal::IssueId,
-            Spot::Named("top.xif.issue_req", 0, Some(2)),
-        ),
-        (
-            Signal::IssueAccept,
-            Spot::Named("top.xif.issue_resp", 3, Some(3)),
-        ),
-        (
-            Signal::IssueWriteback,
-            Spot::Named("top.xif.issue_resp", 2, Some(2)),
-        ),
-        (
-            Signal::IssueRegisterRead,
-            Spot::Named("top.xif.issue_resp", 0, Some(1)),
-        ),
-    ];
-    let lines = [
-        Line::At(0),
-        Line::Is(0, "x"),
-        Line::Is(1, "0"),
-        Line::Is(2, "x"),
-        Line::Is(3, "x"),
-        Line::Is(4, "x"),
-        Line::Is(5, "x"),
-        Line::Is(0, "0"),
-        Line::At(5),
-        Line::Is(0, "1"),
-        Line::Is(1, "1"),
-        Line::Is(2, "0"),
-        Line::Is(3, "0"),
-        Line::At(10),
-        Line::Is(0, "0"),
-        Line::At(15),
-        Line::Is(0, "1"),
-        Line::Is(2, "1"),
-        Line::Is(3, "1"),
-        Line::Is(4, "1110000000010110010"),
-        Line::Is(5, "0"),
-        Line::At(20),
-        Line::Is(0, "0"),
-        Line::At(25),
-        Line::Is(0, "1"),
-        Line::Is(5, "100"),
-        Line::At(30),
-        Line::Is(0, "0"),
-    ];
-    // The values of clock rises 0 to 2, from the signals in the order of the table.
-    let expected = [
-        [
-            (Signal::RstN, 0, 0),
-            (Signal::IssueValid, 0, 1),
-            (Signal::IssueReady, 0, 1),
-            (Signal::IssueHartid, 0, 1),
-            (Signal::IssueId, 0, 7),
-            (Signal::IssueInstr, 0, 0xffff_ffff),
-            (Signal::IssueAccept, 0, 1),
-            (Signal::IssueWriteback, 0, 1),
-            (Signal::IssueRegisterRead, 0, 3),
-        ],
-        [
-            (Signal::RstN, 1, 0),
-            (Signal::IssueValid, 0, 0),
-            (Signal::IssueReady, 0, 0),
-            (Signal::IssueHartid, 0, 1),
-            (Signal::IssueId, 0, 7),
-            (Signal::IssueInstr, 0, 0xffff_ffff),
-            (Signal::IssueAccept, 0, 1),
-            (Signal::IssueWriteback, 0, 1),
-            (Signal::IssueRegisterRead, 0, 3),
-        ],
-        [
-            (Signal::RstN, 1, 0),
-            (Signal::IssueValid, 1, 0),
-            (Signal::IssueReady, 1, 0),
-            (Signal::IssueHartid, 0, 0),
-            (Signal::IssueId, 2, 0),
-            (Signal::IssueInstr, 0x700b, 0),
-            (Signal::IssueAccept, 0, 0),
-            (Signal::IssueWriteback, 0, 0),
-            (Signal::IssueRegisterRead, 0, 0),
-        ],
-    ];
-    let alloc = rt.alloc();
-    let declarations = declared(alloc, &variables)?;
-    let map = map_of(alloc, &places)?;
-    let items = items_of(alloc, &lines)?;
-    let samples = sample_items(alloc, &map, &declarations, &NARROW, &items)?;
+    let items = items_of(rt.alloc(), &PACKED_LINES)?;
+    let samples = run(rt.alloc(), &PACKED, &PACKED_PLACES, &items)?;
     assert_eq!(rt; samples.len(), 3);
-    for (sample, table) in samples.iter().zip(expected.iter()) {
+    for (sample, table) in samples.iter().zip(PACKED_SAMPLES.iter()) {
         assert!(rt; shows(sample, table));
     }
     Ok(())
 }
 
-/// Values of a variable of 100 bits, of which some are extended by 0, x or z.
-#[test]
-fn bits_of_a_long_value(rt: HostRuntime) -> Result<(), Fail> {
-    let table = [
-        (
-            "x",
-            0,
-            0x7,
-            0,
-            0xffff_ffff_ffff_ffff,
-            0,
-            0xffff_ffff_ffff_ffff,
-        ),
-        ("0", 0, 0, 0, 0, 0, 0),
-        ("1", 0, 0, 1, 0, 0, 0),
-        (
-            "z",
-            0,
-            0x7,
-            0,
-            0xffff_ffff_ffff_ffff,
-            0,
-            0xffff_ffff_ffff_ffff,
-        ),
-        (
-            "x1",
-            0,
-            0x7,
-            1,
-            0xffff_ffff_ffff_fffe,
-            0,
-            0xffff_ffff_ffff_ffff,
-        ),
-        (
-            "z0101",
-            1,
-            0x4,
-            5,
-            0xffff_ffff_ffff_fff0,
-            0,
-            0xffff_ffff_ffff_ffff,
-        ),
-        ("1x0z1", 4, 0x2, 0x11, 0xa, 0, 0),
-        (
-            "111111111111111111111111111111111111",
-            7,
-            0,
-            0xf_ffff_ffff,
-            0,
-            0,
-            0,
-        ),
-        (
-            "xxxxxxxxxxxxxxxxxxxxxxxxxxxxxxxxxxxx0",
-            0,
-            0x7,
-            0,
-            0xffff_ffff_ffff_fffe,
-            0,
-            0xffff_ffff_ffff_ffff,
-        ),
-        (
-            "z1z1z1z1z1z1z1z1z1z1z1z1z1z1z1z1z1z1z1z1z1z1z1z1z1z1z1z1z1z1z1z1",
-            0x5,
-            0x2,
-            0x5555_5555_5555_5555,
-            0xaaaa_aaaa_aaaa_aaaa,
-            0x555_5555,
-            0xffff_ffff_faaa_aaaa,
-        ),
-        (
-            "10000000000000000000000000000000000000000000000000000000000000001",
-            0,
-            0,
-            1,
-            0,
-            0x1000_0000,
-            0,
-        ),
-        (
-            "1000000000000000000000000000000000000000000000000000000000000000000000000000000000000000000000000000",
-            0,
-            0,
-            0,
-            0,
-            0x8000_0000_0000_0000,
-            0,
-        ),
-        (
-            "x111111111111111111111111111111111111111111111111111111111111111111111111111111111111111111111111111",
-            0x7,
-            0,
-            0xffff_ffff_ffff_ffff,
-            0,
-            0x7fff_ffff_ffff_ffff,
-            0x8000_0000_0000_0000,
-        ),
-        (
-            "1xz100z01xxzz100zx111z01zx10zx1z1zzxzxxzz10z1zx10zxx0x0xxxzxxx10zxxxzxxxxxzx1",
-            0,
-            0x7,
-            0x8724_5009_2000_4001,
-            0x1899_aff2_cebf_9ffe,
-            0x121_0872_4500,
-            0xc4_f189_9aff,
-        ),
-    ];
-    let places = [
-        (Signal::Clk, Spot::Named("c", 0, None)),
-        (Signal::RegisterId, Spot::Named("wide", 2, None)),
-        (Signal::RegisterRs0, Spot::Named("wide", 0, None)),
-        (Signal::RegisterRs1, Spot::Named("wide", 36, Some(99))),
-    ];
-    let alloc = rt.alloc();
-    let declarations = declared(alloc, &[("c", 0, 1), ("wide", 1, 100)])?;
-    let map = map_of(alloc, &places)?;
+// Values of a variable of 100 bits, of which some are extended by 0, x or z: the digits, and the number and
+// the unknown bits of bits 2 to 4, 0 to 63 and 36 to 99.
+
+const LONG_PLACES: [(Signal, Spot); 4] = [
+    (Signal::Clk, Spot::Named("c", 0, None)),
+    (Signal::RegisterId, Spot::Named("wide", 2, None)),
+    (Signal::RegisterRs0, Spot::Named("wide", 0, None)),
+    (Signal::RegisterRs1, Spot::Named("wide", 36, Some(99))),
+];
+
+const LONG: [(&str, [(u64, u64); 3]); 14] = [
+    (
+        "x",
+        [
+            (0, 0x7),
+            (0, 0xffff_ffff_ffff_ffff),
+            (0, 0xffff_ffff_ffff_ffff),
+        ],
+    ),
+    ("0", [(0, 0), (0, 0), (0, 0)]),
+    ("1", [(0, 0), (1, 0), (0, 0)]),
+    (
+        "z",
+        [
+            (0, 0x7),
+            (0, 0xffff_ffff_ffff_ffff),
+            (0, 0xffff_ffff_ffff_ffff),
+        ],
+    ),
+    (
+        "x1",
+        [
+            (0, 0x7),
+            (1, 0xffff_ffff_ffff_fffe),
+            (0, 0xffff_ffff_ffff_ffff),
+        ],
+    ),
+    (
+        "z0101",
+        [
+            (1, 0x4),
+            (5, 0xffff_ffff_ffff_fff0),
+            (0, 0xffff_ffff_ffff_ffff),
+        ],
+    ),
+    ("1x0z1", [(4, 0x2), (0x11, 0xa), (0, 0)]),
+    (
+        "111111111111111111111111111111111111",
+        [(7, 0), (0xf_ffff_ffff, 0), (0, 0)],
+    ),
+    (
+        "xxxxxxxxxxxxxxxxxxxxxxxxxxxxxxxxxxxx0",
+        [
+            (0, 0x7),
+            (0, 0xffff_ffff_ffff_fffe),
+            (0, 0xffff_ffff_ffff_ffff),
+        ],
+    ),
+    (
+        "z1z1z1z1z1z1z1z1z1z1z1z1z1z1z1z1z1z1z1z1z1z1z1z1z1z1z1z1z1z1z1z1",
+        [
+            (0x5, 0x2),
+            (0x5555_5555_5555_5555, 0xaaaa_aaaa_aaaa_aaaa),
+            (0x555_5555, 0xffff_ffff_faaa_aaaa),
+        ],
+    ),
+    (
+        "10000000000000000000000000000000000000000000000000000000000000001",
+        [(0, 0), (1, 0), (0x1000_0000, 0)],
+    ),
+    (
+        "1000000000000000000000000000000000000000000000000000000000000000000000000000000000000000000000000000",
+        [(0, 0), (0, 0), (0x8000_0000_0000_0000, 0)],
+    ),
+    (
+        "x111111111111111111111111111111111111111111111111111111111111111111111111111111111111111111111111111",
+        [
+            (0x7, 0),
+            (0xffff_ffff_ffff_ffff, 0),
+            (0x7fff_ffff_ffff_ffff, 0x8000_0000_0000_0000),
+        ],
+    ),
+    (
+        "1xz100z01xxzz100zx111z01zx10zx1z1zzxzxxzz10z1zx10zxx0x0xxxzxxx10zxxxzxxxxxzx1",
+        [
+            (0, 0x7),
+            (0x8724_5009_2000_4001, 0x1899_aff2_cebf_9ffe),
+            (0x121_0872_4500, 0xc4_f189_9aff),
+        ],
+    ),
+];
+
+/// Each value before a rise of the clock.
+fn long_items(alloc: Global) -> Result<Vec<Item>, Fail> {
     let mut items = Vec::new(alloc);
     let mut time = 0u64;
-    for (text, ..) in table.iter() {
-        items.push(Item::Time(time))?;
-        items.push(Item::Change {
-            code: 0,
-            digits: digits_of(alloc, "0")?,
-        })?;
-        items.push(Item::Change {
-            code: 1,
-            digits: digits_of(alloc, text)?,
-        })?;
-        items.push(Item::Time(time.wrapping_add(5)))?;
-        items.push(Item::Change {
-            code: 0,
-            digits: digits_of(alloc, "1")?,
-        })?;
+    for (text, _) in LONG.iter() {
+        for line in [
+            Line::At(time),
+            Line::Is(0, "0"),
+            Line::Is(1, text),
+            Line::At(time.wrapping_add(5)),
+            Line::Is(0, "1"),
+        ] {
+            items.push(item_of(alloc, line)?)?;
+        }
         time = time.wrapping_add(10);
     }
-    let samples = sample_items(alloc, &map, &declarations, &WIDE, &items)?;
-    assert_eq!(rt; samples.len(), table.len());
-    for (sample, row) in samples.iter().zip(table.iter()) {
-        let (_, id, id_unknown, rs0, rs0_unknown, rs1, rs1_unknown) = *row;
+    Ok(items)
+}
+
+#[test]
+fn bits_of_a_long_value(rt: HostRuntime) -> Result<(), Fail> {
+    let items = long_items(rt.alloc())?;
+    let samples = run(
+        rt.alloc(),
+        &[("c", 0, 1), ("wide", 1, 100)],
+        &LONG_PLACES,
+        &items,
+    )?;
+    assert_eq!(rt; samples.len(), LONG.len());
+    for (sample, (_, [id, rs0, rs1])) in samples.iter().zip(LONG.iter()) {
         let expected = [
-            (Signal::RegisterId, id, id_unknown),
-            (Signal::RegisterRs0, rs0, rs0_unknown),
-            (Signal::RegisterRs1, rs1, rs1_unknown),
+            (Signal::RegisterId, id.0, id.1),
+            (Signal::RegisterRs0, rs0.0, rs0.1),
+            (Signal::RegisterRs1, rs1.0, rs1.1),
         ];
         assert!(rt; shows(sample, &expected));
     }
     Ok(())
 }
 
-/// A clock that rises twice, item by item, and one that is unknown before.
+// A clock that rises twice, and one that is unknown before its only 1.
+
+const CLOCK: [(&str, u32, u32); 1] = [("c", 0, 1)];
+
+const ONES: [(Signal, Spot); 5] = [
+    (Signal::Clk, Spot::Named("c", 0, None)),
+    (Signal::RstN, Spot::Number(1)),
+    (Signal::IssueValid, Spot::Number(1)),
+    (Signal::IssueReady, Spot::Number(1)),
+    (Signal::IssueAccept, Spot::Number(1)),
+];
+
+const SHOWN: [Bits; 4] = [
+    (Signal::RstN, 1, 0),
+    (Signal::IssueValid, 1, 0),
+    (Signal::IssueReady, 1, 0),
+    (Signal::IssueAccept, 1, 0),
+];
+
+const RISES: [Line; 8] = [
+    Line::At(0),
+    Line::Is(0, "0"),
+    Line::At(5),
+    Line::Is(0, "1"),
+    Line::At(10),
+    Line::Is(0, "0"),
+    Line::At(15),
+    Line::Is(0, "1"),
+];
+
+const UNKNOWN: [Line; 4] = [Line::At(0), Line::Is(0, "x"), Line::At(5), Line::Is(0, "1")];
+
 #[test]
 fn rises_of_the_clock(rt: HostRuntime) -> Result<(), Fail> {
-    let places = [
-        (Signal::Clk, Spot::Named("c", 0, None)),
-        (Signal::RstN, Spot::Number(1)),
-        (Signal::IssueValid, Spot::Number(1)),
-        (Signal::IssueReady, Spot::Number(1)),
-        (Signal::IssueAccept, Spot::Number(1)),
-    ];
-    let expected = [
-        (Signal::RstN, 1, 0),
-        (Signal::IssueValid, 1, 0),
-        (Signal::IssueReady, 1, 0),
-        (Signal::IssueAccept, 1, 0),
-    ];
-    let alloc = rt.alloc();
-    let declarations = declared(alloc, &[("c", 0, 1)])?;
-    let map = map_of(alloc, &places)?;
-    let low = digits_of(alloc, "0")?;
-    let high = digits_of(alloc, "1")?;
-    let mut sampler = Sampler::new(alloc, &map, &declarations, &NARROW)?;
-    assert!(rt; sampler.time(0).is_none());
-    sampler.change(0, &low);
-    assert!(rt; sampler.time(5).is_none());
-    sampler.change(0, &high);
-    let first = sampler.time(10);
-    assert!(rt; first.is_some_and(|sample| shows(&sample, &expected)));
-    sampler.change(0, &low);
-    assert!(rt; sampler.time(15).is_none());
-    sampler.change(0, &high);
-    let second = sampler.finish();
-    assert!(rt; second.is_some_and(|sample| shows(&sample, &expected)));
-    let lines = [Line::At(0), Line::Is(0, "x"), Line::At(5), Line::Is(0, "1")];
-    let items = items_of(alloc, &lines)?;
-    let none = sample_items(alloc, &map, &declarations, &NARROW, &items)?;
-    assert!(rt; none.is_empty());
+    let items = items_of(rt.alloc(), &RISES)?;
+    let samples = run(rt.alloc(), &CLOCK, &ONES, &items)?;
+    assert_eq!(rt; samples.len(), 2);
+    for sample in samples.iter() {
+        assert!(rt; shows(sample, &SHOWN));
+    }
+    let items = items_of(rt.alloc(), &UNKNOWN)?;
+    assert!(rt; run(rt.alloc(), &CLOCK, &ONES, &items)?.is_empty());
     Ok(())
 }
 
+#[test]
+fn item_by_item(rt: HostRuntime) -> Result<(), Fail> {
+    let declarations = declared(rt.alloc(), &CLOCK)?;
+    let map = map_of(rt.alloc(), &ONES)?;
+    let mut sampler = Sampler::new(rt.alloc(), &map, &declarations, &PARAMS)?;
+    sampler.change(0, &digits_of(rt.alloc(), "0")?);
+    assert!(rt; sampler.time(5).is_none());
+    sampler.change(0, &digits_of(rt.alloc(), "1")?);
+    assert!(rt; sampler.time(5).is_none());
+    let last = sampler.finish();
+    assert!(rt; last.is_some_and(|sample| shows(&sample, &SHOWN)));
+    Ok(())
+}
+
+const NAMES: [(&str, u32, u32); 9] = [
+    ("c", 0, 1),
+    ("byte", 1, 8),
+    ("twice", 2, 1),
+    ("twice", 3, 1),
+    ("same", 4, 4),
+    ("same", 4, 4),
+    ("empty", 5, 0),
+    ("xif.issue_id", 1, 8),
+    ("xif.rst_nn", 0, 1),
+];
+
+const FITS: [(Signal, Spot, Option<MapFault>); 20] = [
+    (Signal::Clk, Spot::Named("c", 0, None), None),
+    (
+        Signal::Clk,
+        Spot::Named("d", 0, None),
+        Some(MapFault::Missing(Signal::Clk)),
+    ),
+    (
+        Signal::IssueValid,
+        Spot::Left,
+        Some(MapFault::Missing(Signal::IssueValid)),
+    ),
+    (Signal::IssueId, Spot::Left, None),
+    (Signal::RstN, Spot::Left, None),
+    (
+        Signal::IssueValid,
+        Spot::Named("twice", 0, None),
+        Some(MapFault::Ambiguous(Signal::IssueValid)),
+    ),
+    (Signal::IssueValid, Spot::Named("same", 3, None), None),
+    (
+        Signal::IssueValid,
+        Spot::Named("same", 4, None),
+        Some(MapFault::Narrow(Signal::IssueValid)),
+    ),
+    (
+        Signal::IssueValid,
+        Spot::Named("empty", 0, None),
+        Some(MapFault::Narrow(Signal::IssueValid)),
+    ),
+    (Signal::IssueId, Spot::Named("byte", 5, None), None),
+    (
+        Signal::IssueId,
+        Spot::Named("byte", 6, None),
+        Some(MapFault::Narrow(Signal::IssueId)),
+    ),
+    (
+        Signal::IssueId,
+        Spot::Named("byte", u32::MAX, Some(u32::MAX)),
+        Some(MapFault::Narrow(Signal::IssueId)),
+    ),
+    (Signal::IssueId, Spot::Named("byte", 5, Some(7)), None),
+    (Signal::IssueId, Spot::Named("byte", 0, Some(7)), None),
+    (
+        Signal::IssueId,
+        Spot::Named("byte", 0, Some(8)),
+        Some(MapFault::Narrow(Signal::IssueId)),
+    ),
+    (Signal::IssueId, Spot::Named("byte", 2, Some(4)), None),
+    (
+        Signal::IssueId,
+        Spot::Named("byte", 2, Some(3)),
+        Some(MapFault::Narrow(Signal::IssueId)),
+    ),
+    (Signal::RegisterRs2, Spot::Named("d", 40, Some(3)), None),
+    (Signal::RegisterRs2, Spot::Named("twice", 40, Some(3)), None),
+    (Signal::RegisterRs2, Spot::Left, None),
+];
+
 /// The fault of a map, if it has one.
-fn fault_of(
-    alloc: Global,
-    declarations: &Declarations,
-    table: &[(Signal, Spot)],
-) -> Result<Option<MapFault>, NoMemory> {
-    let map = map_of(alloc, table)?;
-    match Sampler::new(alloc, &map, declarations, &NARROW) {
+fn fault_of(alloc: Global, places: &[(Signal, Spot)]) -> Result<Option<MapFault>, NoMemory> {
+    let declarations = declared(alloc, &NAMES)?;
+    let map = map_of(alloc, places)?;
+    match Sampler::new(alloc, &map, &declarations, &PARAMS) {
         Ok(_) => Ok(None),
         Err(MapFail::Map(fault)) => Ok(Some(fault)),
         Err(MapFail::NoMemory) => Err(NoMemory),
@@ -463,83 +541,23 @@ fn fault_of(
 
 #[test]
 fn faults_of_maps(rt: HostRuntime) -> Result<(), Fail> {
-    let variables = [
-        ("c", 0, 1),
-        ("byte", 1, 8),
-        ("twice", 2, 1),
-        ("twice", 3, 1),
-        ("same", 4, 4),
-        ("same", 4, 4),
-        ("empty", 5, 0),
-        ("xif.issue_id", 1, 8),
-        ("xif.rst_nn", 0, 1),
-    ];
-    let id = Signal::IssueId;
-    let valid = Signal::IssueValid;
-    let left_out = Signal::RegisterRs2;
-    let table = [
-        ([(Signal::Clk, Spot::Named("c", 0, None))], None),
-        (
-            [(Signal::Clk, Spot::Named("d", 0, None))],
-            Some(MapFault::Missing(Signal::Clk)),
-        ),
-        ([(valid, Spot::Left)], Some(MapFault::Missing(valid))),
-        ([(id, Spot::Left)], None),
-        ([(Signal::RstN, Spot::Left)], None),
-        (
-            [(valid, Spot::Named("twice", 0, None))],
-            Some(MapFault::Ambiguous(valid)),
-        ),
-        ([(valid, Spot::Named("same", 3, None))], None),
-        (
-            [(valid, Spot::Named("same", 4, None))],
-            Some(MapFault::Narrow(valid)),
-        ),
-        (
-            [(valid, Spot::Named("empty", 0, None))],
-            Some(MapFault::Narrow(valid)),
-        ),
-        ([(id, Spot::Named("byte", 5, None))], None),
-        (
-            [(id, Spot::Named("byte", 6, None))],
-            Some(MapFault::Narrow(id)),
-        ),
-        (
-            [(id, Spot::Named("byte", u32::MAX, Some(u32::MAX)))],
-            Some(MapFault::Narrow(id)),
-        ),
-        ([(id, Spot::Named("byte", 5, Some(7)))], None),
-        ([(id, Spot::Named("byte", 0, Some(7)))], None),
-        (
-            [(id, Spot::Named("byte", 0, Some(8)))],
-            Some(MapFault::Narrow(id)),
-        ),
-        ([(id, Spot::Named("byte", 2, Some(4)))], None),
-        (
-            [(id, Spot::Named("byte", 2, Some(3)))],
-            Some(MapFault::Narrow(id)),
-        ),
-        ([(left_out, Spot::Named("d", 40, Some(3)))], None),
-        ([(left_out, Spot::Named("twice", 40, Some(3)))], None),
-        ([(left_out, Spot::Left)], None),
-    ];
-    let alloc = rt.alloc();
-    let declarations = declared(alloc, &variables)?;
-    for (places, expected) in table.iter() {
-        assert_eq!(rt; fault_of(alloc, &declarations, places)?, *expected);
+    for (signal, spot, expected) in FITS.iter() {
+        assert_eq!(rt; fault_of(rt.alloc(), &[(*signal, *spot)])?, *expected);
     }
     // The first in the order of the table, whichever was set first.
     let both = [
         (Signal::ResultWe, Spot::Named("d", 0, None)),
-        (valid, Spot::Named("same", 4, None)),
+        (Signal::IssueValid, Spot::Named("same", 4, None)),
     ];
-    assert_eq!(rt;
-        fault_of(alloc, &declarations, &both)?,
-        Some(MapFault::Narrow(valid))
-    );
-    let mut map = SignalMap::new();
-    map.set(valid, Place::Constant(7));
-    assert!(rt; matches!(map.get(valid), Place::Constant(7)));
-    assert!(rt; matches!(map.get(id), Place::Default));
+    let first = Some(MapFault::Narrow(Signal::IssueValid));
+    assert_eq!(rt; fault_of(rt.alloc(), &both)?, first);
     Ok(())
+}
+
+#[test]
+fn places_of_a_map(rt: HostRuntime) {
+    let mut map = SignalMap::new();
+    map.set(Signal::IssueValid, Place::Constant(7));
+    assert!(rt; matches!(map.get(Signal::IssueValid), Place::Constant(7)));
+    assert!(rt; matches!(map.get(Signal::IssueId), Place::Default));
 }

@@ -4,6 +4,8 @@ use std::alloc::{AllocError, Global};
 use std::process::Abort;
 use std::test::Fail;
 use xif_base::{MemOut, MemShelf};
+use xif_image::ImageFault;
+use xif_job::{Field, JobFault};
 
 // addi x1, x0, 5; ecall
 const FIVE: &[u32] = &[0x0050_0093, 0x0000_0073];
@@ -202,7 +204,7 @@ fn refuses_with_a_cause(rt: HostRuntime) -> Result<(), Fail> {
         plain("raw p.bin", FIVE, Status::Usage, ""),
         plain("raw p.bin 010", FIVE, Status::Usage, ""),
         plain("walk p.bin", FIVE, Status::Usage, ""),
-        plain("step p.bin", FIVE, Status::Unbuilt, ""),
+        plain("run p.bin", FIVE, Status::Unbuilt, ""),
         plain("raw q.bin 10", FIVE, READ, ""),
         Case {
             failing_fetches: &[0],
@@ -254,6 +256,17 @@ fn tells_each_status(rt: HostRuntime) -> Result<(), Fail> {
         (Status::Usage, 2, "usage"),
         (Status::ReadFault(Which::Image), 3, "read image"),
         (Status::WriteFault(Which::Output), 4, "write output"),
+        (
+            Status::Job(JobFault::OutOfRange(Field::ParamsDualRead)),
+            5,
+            "job range params.x_dualread",
+        ),
+        (Status::Job(JobFault::NotToml), 5, "job not-toml"),
+        (
+            Status::Image(ImageFault::BadToken { at: 7 }),
+            6,
+            "image bad-token at=7",
+        ),
         (Status::TooBig(Which::Image), 9, "too-big image"),
         (Status::NoMemory, 10, "no memory"),
         (Status::Unbuilt, 11, "unbuilt"),
@@ -262,6 +275,139 @@ fn tells_each_status(rt: HostRuntime) -> Result<(), Fail> {
         assert_eq!(rt; text.as_str(), line);
         assert_eq!(rt; status.number(), number, "{line}");
         assert_eq!(rt; status.is_fault(), number > 1, "{line}");
+    }
+    Ok(())
+}
+
+// One unit with seven entries: accumulators that are added to and read, fields, and pairs.
+const UNIT: &str = "[[unit]]\naccumulators = 2\n\
+    [[unit.entry]]\nmask = 0x707F\nmatch = 0x000B\nop = \"acc_add\"\n\
+    [[unit.entry]]\nmask = 0x707F\nmatch = 0x100B\nop = \"extract_u\"\nlow = 4\nlen = 8\n\
+    [[unit.entry]]\nmask = 0x707F\nmatch = 0x200B\nop = \"acc_read_low\"\n\
+    [[unit.entry]]\nmask = 0x707F\nmatch = 0x300B\nop = \"pair_mul\"\n\
+    [[unit.entry]]\nmask = 0x707F\nmatch = 0x400B\nop = \"pair_sum\"\n\
+    [[unit.entry]]\nmask = 0x707F\nmatch = 0x500B\nop = \"insert\"\nlow = 0\nlen = 8\n\
+    [[unit.entry]]\nmask = 0x707F\nmatch = 0x600B\nop = \"acc_read_high\"\n";
+
+const RAW: &str = "[image]\nfile = \"p\"\nkind = \"raw\"\n";
+
+// The same where pairs are read in lane 0 and written.
+const PAIRS: &str = "[params]\nx_rfr_width = 64\nx_rfw_width = 64\nx_dualread = 1\nx_dualwrite = 1\n\
+    [image]\nfile = \"p\"\nkind = \"raw\"\n";
+
+const PAIRS_OF_TWO: &str = "[params]\nx_rfr_width = 64\nx_rfw_width = 64\nx_dualread = 1\nx_dualwrite = 1\n\
+    [image]\nfile = \"p\"\nkind = \"raw\"\n[core]\nbudget = 2\n";
+
+// The sum of x2 and x3 as a pair, and of the pair at an odd field.
+const SUMS: &[u32] = &[
+    0x0050_0113,
+    0x0060_0193,
+    0x0001_428b,
+    0x0001_c28b,
+    0x0000_0073,
+];
+
+// A pair written at x0, and the pair at x0 read.
+const PAIR_AT_ZERO: &[u32] = &[
+    0x0090_0093,
+    0x0050_0113,
+    0x0060_0193,
+    0x0031_300b,
+    0x0000_428b,
+    0x0000_0073,
+];
+
+// x1 is added to an accumulator twice.
+const ACCUMULATES: &[u32] = &[0x0030_0093, 0x0000_800b, 0x0000_800b, 0x0000_0073];
+
+fn shelf_of(alloc: Global, head: &str, image: &[u8]) -> Result<MemShelf, Fail> {
+    let mut job = String::from_str(alloc, head)?;
+    job.push_str(UNIT)?;
+    let mut shelf = MemShelf::new(alloc, 65_536, &[], &[], &[])?;
+    shelf.insert("j", job.as_bytes())?;
+    shelf.insert("p", image)?;
+    Ok(shelf)
+}
+
+#[test]
+fn steps_jobs(rt: HostRuntime) -> Result<(), Fail> {
+    let words = split(rt.alloc(), "step j")?;
+    for (head, image, output) in [
+        (
+            RAW,
+            DIVIDES,
+            "end=ecall pc=0x0000001c retired=7\nx1=0x80000000\nx2=0xffffffff\nx3=0x80000000\n\
+            x5=0x00000007\nx6=0xffffffff\nx7=0x00000007\n",
+        ),
+        (
+            RAW,
+            TAKEN,
+            "end=target-misaligned pc=0x0000000c retired=2\nx1=0x0000000d\nx2=0x00000008\n",
+        ),
+        (
+            PAIRS,
+            SUMS,
+            "end=illegal pc=0x0000000c retired=3\nx2=0x00000005\nx3=0x00000006\nx5=0x0000000b\n",
+        ),
+        (
+            PAIRS_OF_TWO,
+            SUMS,
+            "end=budget pc=0x00000008 retired=2\nx2=0x00000005\nx3=0x00000006\n",
+        ),
+        (
+            PAIRS,
+            PAIR_AT_ZERO,
+            "end=ecall pc=0x00000014 retired=5\nx1=0x00000009\nx2=0x00000005\nx3=0x00000006\n",
+        ),
+        (
+            RAW,
+            ACCUMULATES,
+            "end=ecall pc=0x0000000c retired=3\nx1=0x00000003\nu0.a0=0x0000000000000006\n",
+        ),
+    ] {
+        let image = bytes_of(rt.alloc(), image)?;
+        let mut shelf = shelf_of(rt.alloc(), head, &image)?;
+        let mut out = MemOut::new(rt.alloc(), 64, &[])?;
+        let status = xif(rt.alloc(), &words, &mut shelf, &mut out);
+        assert_eq!(rt; status, Status::Done, "at {output}");
+        assert_eq!(rt; out.bytes(), output.as_bytes());
+    }
+    Ok(())
+}
+
+#[test]
+fn refuses_jobs_with_a_cause(rt: HostRuntime) -> Result<(), Fail> {
+    let wide = JobFault::OutOfRange(Field::ParamsDualRead);
+    for (line, head, status) in [
+        ("step q", RAW, Status::ReadFault(Which::Job)),
+        ("step j", "x =", Status::Job(JobFault::NotToml)),
+        ("step j", "[script]\n", Status::Unbuilt),
+        (
+            "step j",
+            "[image]\nfile = \"q\"\n",
+            Status::ReadFault(Which::Image),
+        ),
+        (
+            "step j",
+            "[params]\nx_dualread = 3\nx_rfr_width = 64\n",
+            Status::Job(wide),
+        ),
+        (
+            "step j",
+            "[image]\nfile = \"p\"\n",
+            Status::Image(ImageFault::BadToken { at: 0 }),
+        ),
+        (
+            "step j",
+            "[memory]\nsize = 4\n[image]\nfile = \"p\"\nkind = \"raw\"\n",
+            Status::Image(ImageFault::Outside { at: 4 }),
+        ),
+    ] {
+        let words = split(rt.alloc(), line)?;
+        let mut shelf = shelf_of(rt.alloc(), head, b"?/ 00 01 02")?;
+        let mut out = MemOut::new(rt.alloc(), 64, &[])?;
+        assert_eq!(rt; xif(rt.alloc(), &words, &mut shelf, &mut out), status, "at {head}");
+        assert_eq!(rt; out.bytes().len(), 0);
     }
     Ok(())
 }

@@ -1,19 +1,25 @@
-use Rattle.xif_cli.proofs.RawForm.{on_raw, no_raw}
+use Rattle.std.proofs.Common.{◌≡◌, ◌⊎◌, inl, inr, Option, Some, None, Result, Ok, Err, ap, refl, List, ℕ}
+use Rattle.xif_base.specs.Files.{Files}
+use Rattle.xif_cli.specs.declared.status.Status.{Status}
+use Rattle.xif_cli.specs.declared.status.Status.TheVariants.{ReadFault}
+use Rattle.xif_cli.specs.Words.{form_of}
 use Rattle.xif_cli.proofs.program.xif.Goals as goal
 
-pub returns-in-None-clause-missing : goal.returns-in-None-clause-missing
-returns-in-None-clause-missing g c = no_raw _ c.args.words.now c.in-None.ensures.only
+told_or_not : {A : Type 0} (files : Option A) → (files ≡ None) ⊎ ((m : A) × (files ≡ Some m))
+told_or_not None = inl refl
+told_or_not (Some m) = inr (m, refl)
 
-pub returns-in-None-clause-longer : goal.returns-in-None-clause-longer
-returns-in-None-clause-longer g c = no_raw _ c.args.words.now c.in-None.ensures.only
+pub returns-in-Err-clause-read_fault : goal.returns-in-Err-clause-read_fault
+returns-in-Err-clause-read_fault g c = λ w is.
+    elim (told_or_not (g.S.Shelf.files c.args.shelf.now)) [
+    | inl none ↦ inl (c.in-Err.ensures.untold none w (cc))
+    | inr told ↦ elim ((c.in-Err.ensures.told told.0 told.1).outcome) [
+      | inl meant ↦ inr (told.0, (told.1, (form_of c.in-Some.command, (c.in-Some.ensures.found, meant))))
+      | inr stop ↦ elim stop [ inl lacks ↦ absurd (cc) | inr faulted ↦ inl faulted.0 ]
+      ]
+    ]
 
-pub returns-in-None-clause-complete : goal.returns-in-None-clause-complete
-returns-in-None-clause-complete g c = no_raw _ c.args.words.now c.in-None.ensures.only
-
-pub returns-in-Some-Raw-clause-done : goal.returns-in-Some-Raw-clause-done
-returns-in-Some-Raw-clause-done g c = λ done.
-    on_raw _ c.args.words.now c.in-Some-Raw.image.now c.in-Some-Raw.count (c.run_raw.ensures.done done) (λ form is. rw c.in-Some-Raw.field-0-is at (c.in-Some-Raw.ensures.only form is))
-
-pub returns-in-Some-Raw-clause-put : goal.returns-in-Some-Raw-clause-put
-returns-in-Some-Raw-clause-put g c =
-    on_raw _ c.args.words.now c.in-Some-Raw.image.now c.in-Some-Raw.count c.run_raw.ensures.put (λ form is. rw c.in-Some-Raw.field-0-is at (c.in-Some-Raw.ensures.only form is))
+pub returns-in-Err-clause-read_before : goal.returns-in-Err-clause-read_before
+returns-in-Err-clause-read_before g c = λ w is m told.
+    let same : (let r : Result (List ℕ) Status = Err c.in-Err.status in r) ≡ Err (ReadFault w) = cc in
+    (form_of c.in-Some.command, (c.in-Some.ensures.found, (c.in-Err.ensures.told m told).before w same))

@@ -1,0 +1,106 @@
+-- What a command comes to where nothing fails: the text that it prints, or its refusal. The steps stand in the order in which refusals are
+-- told.
+use Rattle.std.specs.Prelude.{◌==◌, ℕ, cond, List, length, Option, Some, None, Result, Ok, Err, nat_le, true}
+use Rattle.std.specs.FinMap as map
+use Rattle.xif_base.specs.Files.{Files}
+use Rattle.xif_base.specs.declared.outside.Which.{Which}
+use Rattle.xif_base.specs.declared.outside.Which.TheVariants as which
+use Rattle.xif_image.specs.Image.{Placement, raw_image}
+use Rattle.xif_image.specs.Text.{text_image}
+use Rattle.xif_image.specs.declared.image.ImageFault.{ImageFault}
+use Rattle.xif_image.specs.declared.image.ImageFault.TheVariants as image
+use Rattle.xif_job.specs.FieldTable.{read_of}
+use Rattle.xif_job.specs.declared.field.JobFault.{JobFault}
+use Rattle.xif_job.specs.declared.field.JobFault.TheVariants as job
+use Rattle.xif_job.specs.declared.image.ImageKind.{ImageKind}
+use Rattle.xif_job.specs.declared.image.ImageKind.TheVariants.{Text, Raw}
+use Rattle.xif_job.specs.declared.job.Job.{Job}
+use Rattle.xif_cli.specs.declared.limits.TheConstants.{RAW_LIMIT, JOB_LIMIT, RAW_IMAGE_LIMIT, TEXT_IMAGE_LIMIT}
+use Rattle.xif_cli.specs.declared.status.Status.{Status}
+use Rattle.xif_cli.specs.declared.status.Status.TheVariants as status
+use Rattle.xif_cli.specs.Run.{raw_report, step_report}
+use Rattle.xif_cli.specs.Words.{Form}
+use Rattle.xif_cli.specs.Words as form
+
+-- the bytes of a file that a command reads, by which one it is and by its name; none where it can't be read
+abbrev pub Lookup : Type 0
+Lookup = Which → List ℕ → Option (List ℕ)
+
+-- the files as they are
+abbrev pub found : Files → Lookup
+found files which name = map.get files name
+
+abbrev pub place_of : Which → ℕ
+place_of which.Job = 0
+place_of which.Image = 1
+place_of which.Waveform = 2
+place_of which.Trace = 3
+place_of which.Log = 4
+place_of which.Output = 5
+
+-- the files where one that a command reads can't be read
+abbrev pub without : Which → Files → Lookup
+without lost files which name = cond (place_of lost == place_of which) None (map.get files name)
+
+-- what follows is done only where nothing was refused
+infixl 10 ◌>>=◌
+abbrev pub ◌>>=◌ : {A B : Type 0} → Result A Status → (A → Result B Status) → Result B Status
+(Ok x) >>= f = f x
+(Err status) >>= f = Err status
+
+-- a file that is read whole, where it is there and within its limit
+abbrev pub file_in : Which → ℕ → Option (List ℕ) → Result (List ℕ) Status
+file_in which limit None = Err (status.ReadFault which)
+file_in which limit (Some bytes) = cond (nat_le (length bytes) limit) (Ok bytes) (Err (status.TooBig which))
+
+-- the status of a job's fault, and of an image's
+abbrev pub job_status : JobFault → Status
+job_status job.NoMemory = status.NoMemory
+job_status job.Unbuilt = status.Unbuilt
+job_status fault = status.Job fault
+
+abbrev pub image_status : ImageFault → Status
+image_status image.NoMemory = status.NoMemory
+image_status fault = status.Image fault
+
+abbrev pub or_status : {A E : Type 0} → (E → Status) → Result A E → Result A Status
+or_status f (Ok x) = Ok x
+or_status f (Err e) = Err (f e)
+
+-- the job in the file of a name; it has to name its image
+abbrev pub job_in : List ℕ → Lookup → Result Job Status
+job_in name find = do
+  bytes ← file_in which.Job JOB_LIMIT (find which.Job name)
+  or_status job_status (read_of true bytes)
+
+-- the longest file of an image, in bytes
+abbrev pub image_limit : ImageKind → ℕ
+image_limit Text = TEXT_IMAGE_LIMIT
+image_limit Raw = RAW_IMAGE_LIMIT
+
+-- the image that the bytes of a file are, by their kind
+abbrev pub image_by : ImageKind → Job → List ℕ → Result Placement ImageFault
+image_by Text job bytes = text_image job.base job.size bytes
+image_by Raw job bytes = raw_image job.image.load job.base job.size bytes
+
+-- the image of a job
+abbrev pub image_of : Job → Lookup → Result Placement Status
+image_of job find = do
+  bytes ← file_in which.Image (image_limit job.image.kind) (find which.Image job.image.file)
+  or_status image_status (image_by job.image.kind job bytes)
+
+abbrev pub raw_outcome : List ℕ → ℕ → Lookup → Result (List ℕ) Status
+raw_outcome image count find = do
+  bytes ← file_in which.Image RAW_LIMIT (find which.Image image)
+  Ok (raw_report bytes count)
+
+abbrev pub step_outcome : List ℕ → Lookup → Result (List ℕ) Status
+step_outcome name find = do
+  job ← job_in name find
+  image ← image_of job find
+  Ok (step_report job image)
+
+abbrev pub outcome_of : Form → Lookup → Result (List ℕ) Status
+outcome_of (form.Raw image count) find = raw_outcome image count find
+outcome_of (form.Step job) find = step_outcome job find
+outcome_of _ find = Err status.Unbuilt

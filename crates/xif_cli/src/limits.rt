@@ -1,0 +1,13 @@
+//! The longest files that are read, in bytes.
+
+/// An image of `raw`.
+pub const RAW_LIMIT: u64 = 65_536;
+
+/// A job file.
+pub const JOB_LIMIT: u64 = 262_144;
+
+/// A job's image of plain bytes.
+pub const RAW_IMAGE_LIMIT: u64 = 1_048_576;
+
+/// A job's image that is a text.
+pub const TEXT_IMAGE_LIMIT: u64 = 8_388_608;

@@ -1,0 +1,119 @@
+//! The files that a command reads.
+ghost use Rattle.std.specs.Prelude.{◌≡◌, ◌≤◌, ◌⊎◌, vec_len, IsTrue, IfErr, IfOk};
+ghost use Rattle.xif_base.specs.Files.{Files};
+ghost use Rattle.xif_base.specs.Params.{IsInRange};
+ghost use Rattle.coproc_config.specs.Check.{IsLawful};
+ghost use Rattle.xif_job.specs.Ranges.{IsLawfulMemory};
+ghost use Rattle.xif_cli.specs.Answers.{IsFaulted};
+ghost use Rattle.xif_cli.specs.Outcome.{file_in, job_in, image_of, image_by, image_limit};
+ghost use Rattle.xif_cli.specs.Reading.{Ends, seen, can_refuse_file, can_refuse_job, can_refuse_image};
+
+use crate::limits::{JOB_LIMIT, RAW_IMAGE_LIMIT, TEXT_IMAGE_LIMIT};
+use crate::status::Status;
+use std::alloc::Global;
+use xif_base::{ReadFail, Shelf, Which, read_all};
+use xif_image::{Image, ImageFault};
+use xif_job::{ImageKind, Job};
+
+/// Reads a file whole.
+pub(crate) fn read_file<S: Shelf>(
+    alloc: Global,
+    which: Which,
+    name: &str,
+    limit: u64,
+    shelf: &mut S,
+) -> Result<Vec<u8>, Status>
+    ensures told { (m : Files) → S.files shelf.old ≡ Some m →
+        Ends (IsFaulted (S.faultless shelf.old) (S.fetch_faults shelf.old) (S.fetch_faults shelf.new)) m
+        (λ find. file_in which limit (find which name.now)) (seen (λ v. v.items) result) }
+    ensures untold { S.files shelf.old ≡ None → result ≡ Err (Status.ReadFault which) →
+        IsFaulted (S.faultless shelf.old) (S.fetch_faults shelf.old) (S.fetch_faults shelf.new) }
+    ensures refusal { IfErr result (λ status. IsTrue (can_refuse_file which status)) }
+    ensures within { IfOk result (λ v. vec_len v ≤ limit) }
+    ensures files { S.files shelf.new ≡ S.files shelf.old }
+    ensures writes { S.write_faults shelf.new ≡ S.write_faults shelf.old }
+    ensures count { S.fetch_faults shelf.old ≤ S.fetch_faults shelf.new }
+    ensures stays_faultless { S.faultless shelf.old → S.faultless shelf.new }
+    ensures no_fault { S.faultless shelf.old → S.fetch_faults shelf.new ≡ S.fetch_faults shelf.old }
+{
+    match read_all(alloc, shelf, name, limit) {
+        Ok(bytes) => Ok(bytes),
+        Err(ReadFail::ReadFault) => Err(Status::ReadFault(which)),
+        Err(ReadFail::TooBig) => Err(Status::TooBig(which)),
+        Err(ReadFail::NoMemory) => Err(Status::NoMemory),
+    }
+}
+
+/// Reads the job of a command that runs it. It has to name its image.
+pub(crate) fn read_job<S: Shelf>(
+    alloc: Global,
+    name: &str,
+    shelf: &mut S,
+) -> Result<Job, Status>
+    ensures told { (m : Files) → S.files shelf.old ≡ Some m →
+        Ends (IsFaulted (S.faultless shelf.old) (S.fetch_faults shelf.old) (S.fetch_faults shelf.new)) m
+        (job_in name.now) (seen (λ job. job) result) }
+    ensures untold { S.files shelf.old ≡ None → (w : Which) → result ≡ Err (Status.ReadFault w) →
+        IsFaulted (S.faultless shelf.old) (S.fetch_faults shelf.old) (S.fetch_faults shelf.new) }
+    ensures refusal { IfErr result (λ status. IsTrue (can_refuse_job status)) }
+    ensures in_range { IfOk result (λ job. IsInRange job.params) }
+    ensures lawful { IfOk result (λ job. IsLawful job.set) }
+    ensures memory { IfOk result (λ job. IsLawfulMemory job.base job.size) }
+    ensures files { S.files shelf.new ≡ S.files shelf.old }
+    ensures writes { S.write_faults shelf.new ≡ S.write_faults shelf.old }
+    ensures count { S.fetch_faults shelf.old ≤ S.fetch_faults shelf.new }
+    ensures stays_faultless { S.faultless shelf.old → S.faultless shelf.new }
+    ensures no_fault { S.faultless shelf.old → S.fetch_faults shelf.new ≡ S.fetch_faults shelf.old }
+{
+    let bytes = read_file(alloc, Which::Job, name, JOB_LIMIT, shelf)?;
+    Ok(Job::read(alloc, &bytes, true)?)
+}
+
+/// Reads the image of a job.
+pub(crate) fn read_image<S: Shelf>(
+    alloc: Global,
+    job: &Job,
+    shelf: &mut S,
+) -> Result<Image, Status>
+    requires { IsLawfulMemory job.now.base job.now.size }
+    ensures told { (m : Files) → S.files shelf.old ≡ Some m →
+        Ends (IsFaulted (S.faultless shelf.old) (S.fetch_faults shelf.old) (S.fetch_faults shelf.new)) m
+        (image_of job.now) (seen (λ image. image) result) }
+    ensures untold { S.files shelf.old ≡ None → (w : Which) → result ≡ Err (Status.ReadFault w) →
+        IsFaulted (S.faultless shelf.old) (S.fetch_faults shelf.old) (S.fetch_faults shelf.new) }
+    ensures refusal { IfErr result (λ status. IsTrue (can_refuse_image status)) }
+    ensures memory { IfOk result (λ image. (image.base ≡ job.now.base) × (image.size ≡ job.now.size)) }
+    ensures files { S.files shelf.new ≡ S.files shelf.old }
+    ensures writes { S.write_faults shelf.new ≡ S.write_faults shelf.old }
+    ensures count { S.fetch_faults shelf.old ≤ S.fetch_faults shelf.new }
+    ensures stays_faultless { S.faultless shelf.old → S.faultless shelf.new }
+    ensures no_fault { S.faultless shelf.old → S.fetch_faults shelf.new ≡ S.fetch_faults shelf.old }
+{
+    let limit = image_limit(job.image.kind);
+    let bytes = read_file(alloc, Which::Image, job.image.file.as_str(), limit, shelf)?;
+    Ok(image_of_bytes(alloc, job, &bytes)?)
+}
+
+// The longest file of an image, in bytes.
+fn image_limit(kind: ImageKind) -> u64
+    ensures { result ≡ image_limit kind }
+{
+    match kind {
+        ImageKind::Text => TEXT_IMAGE_LIMIT,
+        ImageKind::Raw => RAW_IMAGE_LIMIT,
+    }
+}
+
+// The image that the bytes of its file are.
+fn image_of_bytes(alloc: Global, job: &Job, bytes: &[u8]) -> Result<Image, ImageFault>
+    requires { IsLawfulMemory job.now.base job.now.size }
+    ensures image { IfOk result (λ image. image_by job.now.image.kind job.now bytes.now ≡ Ok image) }
+    ensures fault { IfErr result (λ fault.
+        (fault ≡ ImageFault.NoMemory) ⊎ (image_by job.now.image.kind job.now bytes.now ≡ Err fault)) }
+    ensures memory { IfOk result (λ image. (image.base ≡ job.now.base) × (image.size ≡ job.now.size)) }
+{
+    match job.image.kind {
+        ImageKind::Text => Image::text(alloc, bytes, job.base, job.size),
+        ImageKind::Raw => Image::raw(alloc, bytes, job.image.load, job.base, job.size),
+    }
+}
