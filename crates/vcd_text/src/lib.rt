@@ -2,6 +2,10 @@
 //!
 //! A reader gives the items of a text, its times and its changes of values, in order, and the variables
 //! that it declares; a writer gives the text of a list of buses.
+//!
+//! Of the writer the definitions are `specs/Written` (the text of a list of buses, and what it says) and
+//! `specs/Writing` (for which buses a writer stands). That this text has a reading, which says just that,
+//! is the law of `written_texts_read_back`.
 #![tactic(auto)]
 
 mod codes;

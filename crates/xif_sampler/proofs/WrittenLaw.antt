@@ -1,12 +1,11 @@
 -- The samples of the text of buses are those buses.
-use Rattle.std.proofs.Common.{◌≡◌, ◌+◌, ◌^◌, ◌<◌, ◌==◌, ℕ, Bool, true, false, cond, List, [], ◌∷◌, map, drop, length, Ok, refl, sym, ap, ◌∙◌, subst, arith, Result}
-use Rattle.std.specs.List.{All, AllByRecursion}
+use Rattle.std.proofs.Common.{◌≡◌, ◌+◌, ◌^◌, ◌<◌, ◌==◌, ℕ, Bool, true, false, cond, List, [], ◌∷◌, map, drop, length, refl, sym, ap, ◌∙◌, subst, arith, Result}
+use Rattle.std.specs.List.{All}
 use Rattle.std.specs.Result.{result_unwrap_or}
 use Rattle.std.proofs.lemmas.Bool.{eqb-true}
 use Rattle.xif_base.specs.declared.params.Params.{Params}
 use Rattle.xif_base.specs.Params.{IsInRange}
 use Rattle.xif_signals.specs.declared.bus.Bus.{Bus}
-use Rattle.xif_signals.specs.declared.sample.Quad.{Quad}
 use Rattle.xif_signals.specs.declared.signal.Signal.{Signal}
 use Rattle.xif_signals.specs.declared.signal.Signal.TheVariants.{Clk, RstN, IssueValid, IssueReady, IssueHartid, IssueId, IssueInstr, IssueAccept, IssueWriteback, IssueRegisterRead, RegisterValid, RegisterReady, RegisterHartid, RegisterId, RegisterRs0, RegisterRs1, RegisterRs2, RegisterRsValid, CommitValid, CommitHartid, CommitId, CommitKill, ResultValid, ResultReady, ResultHartid, ResultId, ResultData, ResultRd, ResultWe}
 use Rattle.xif_signals.specs.Signal.{signals, width_of}
@@ -19,8 +18,7 @@ use Rattle.vcd_text.proofs.ReadsBack.{law as text_law, all_by}
 use Rattle.xif_sampler.specs.declared.fault.MapFault.{MapFault}
 use Rattle.xif_sampler.specs.declared.source.Source.{Source}
 use Rattle.xif_sampler.specs.declared.source.Source.TheVariants.{Fixed, Bits}
-use Rattle.xif_sampler.specs.Places.{defaults, sources_of}
-use Rattle.xif_sampler.specs.Samples.{quad_by, samples_by, samples_of}
+use Rattle.xif_sampler.specs.Samples.{quad_by, samples_by}
 use Rattle.xif_sampler.specs.Written.{SamplesBack}
 use Rattle.xif_sampler.proofs.WrittenSources.{written_sources, wires_there, wires_gone, sources_are, clock_first}
 use Rattle.xif_sampler.proofs.WrittenSamples.{Has, samples_of_cycles}

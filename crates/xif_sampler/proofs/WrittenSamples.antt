@@ -1,5 +1,5 @@
 -- The samples of the items of a text of buses.
-use Rattle.std.proofs.Common.{◌≡◌, ◌+◌, ◌*◌, ◌^◌, ◌<◌, ◌≤◌, ◌==◌, ◌&&◌, ℕ, zero, suc, Bool, true, false, cond, List, [], ◌∷◌, ◌++◌, map, drop, reverse, Option, Some, None, refl, sym, ap, ◌∙◌, subst, append_assoc, arith, lit≤, lit<}
+use Rattle.std.proofs.Common.{◌≡◌, ◌+◌, ◌*◌, ◌^◌, ◌<◌, ◌≤◌, ◌==◌, ◌&&◌, ℕ, Bool, true, false, cond, List, [], ◌∷◌, ◌++◌, map, reverse, Option, Some, None, refl, sym, ap, ◌∙◌, subst, append_assoc, arith, lit<}
 use Rattle.std.specs.Prelude.{nat_lt, max, filter_map}
 use Rattle.std.specs.List.{AllByRecursion, cons_option}
 use Rattle.std.proofs.lemmas.Bool.Decides.{nat_tests}
@@ -14,7 +14,6 @@ use Rattle.xif_signals.specs.Signal.{width_of}
 use Rattle.xif_signals.specs.Quad.{known_quad}
 use Rattle.xif_signals.specs.Bus.{sample_of, FitsWidths}
 use Rattle.vcd_text.specs.declared.digit.Digit.{Digit}
-use Rattle.vcd_text.specs.declared.digit.Digit.TheVariants.{Zero, One}
 use Rattle.vcd_text.specs.declared.item.Item.{Item}
 use Rattle.vcd_text.specs.declared.item.Item.TheVariants.{Time, Change}
 use Rattle.vcd_text.specs.Written.{data_wires_of, value_in, is_same, bits, change_items, cycle_items, cycles_items}
@@ -23,7 +22,7 @@ use Rattle.vcd_text.proofs.Fitting.{bus_fits}
 use Rattle.xif_sampler.specs.declared.source.Source.{Source}
 use Rattle.xif_sampler.specs.declared.source.Source.TheVariants.{Bits}
 use Rattle.xif_sampler.specs.Digits.{quad_from}
-use Rattle.xif_sampler.specs.Samples.{last_digits, quad_by, time_of, before, ended, instants, is_number, rises, sample_at, samples_by}
+use Rattle.xif_sampler.specs.Samples.{last_digits, quad_by, time_of, before, ended, instants, is_number, sample_at, samples_by}
 use Rattle.xif_sampler.proofs.WrittenDigits.{quad_bits}
 
 -- ---- a history that grows

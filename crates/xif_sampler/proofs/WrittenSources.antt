@@ -1,7 +1,6 @@
 -- Where the default map finds the signals in the text of buses.
-use Rattle.std.proofs.Common.{◌≡◌, ◌+◌, ◌<◌, ◌≤◌, ◌==◌, ◌&&◌, ℕ, zero, suc, Bool, true, false, not, cond, List, [], ◌∷◌, ◌++◌, map, filter, drop, get_or, Result, Ok, Err, None, refl, sym, ap, ◌∙◌, subst, append_assoc, arith}
-use Rattle.std.specs.Prelude.{codes, nat_lt, replicate}
-use Rattle.std.specs.List.{list_any}
+use Rattle.std.proofs.Common.{◌≡◌, ◌+◌, ◌<◌, ◌≤◌, ◌==◌, ◌&&◌, ℕ, zero, suc, Bool, true, false, not, cond, List, [], ◌∷◌, ◌++◌, drop, get_or, Result, Ok, Err, None, refl, sym, ap, ◌∙◌, append_assoc, arith}
+use Rattle.std.specs.Prelude.{nat_lt, replicate}
 use Rattle.std.specs.Str.{bytes_eq}
 use Rattle.std.proofs.lemmas.Bool.Decides.{nat_tests, Decides-eqb}
 use Rattle.std.proofs.lemmas.Slice.Eq.{bytes_eq-Decides}
@@ -13,13 +12,12 @@ use Rattle.xif_signals.specs.Signal.{signals, number_of, name_of, width_of}
 use Rattle.vcd_text.specs.declared.declaration.Variable.{Variable}
 use Rattle.vcd_text.specs.Written.{wires, wires_of, variables_from, written_variables}
 use Rattle.vcd_text.proofs.Table.{Rise, rise-filter, signals_rise}
-use Rattle.xif_sampler.specs.declared.place.Place.{Place}
 use Rattle.xif_sampler.specs.declared.place.Place.TheVariants.{Default}
 use Rattle.xif_sampler.specs.declared.fault.MapFault.{MapFault}
 use Rattle.xif_sampler.specs.declared.fault.MapFault.TheVariants.{Narrow}
 use Rattle.xif_sampler.specs.declared.source.Source.{Source}
 use Rattle.xif_sampler.specs.declared.source.Source.TheVariants.{Fixed, Bits}
-use Rattle.xif_sampler.specs.Places.{place_at, defaults, named, has_named, default_name, is_reset_left_out, bits_of, variable_of, bits_named, source_in, source_of, with_next, sources_along, sources_of}
+use Rattle.xif_sampler.specs.Places.{place_at, defaults, named, has_named, default_name, bits_of, variable_of, bits_named, source_in, source_of, with_next, sources_along, sources_of}
 
 -- the sources of signals, the first of which has this place among the codes
 abbrev pub written_sources : Params → ℕ → List Signal → List Source

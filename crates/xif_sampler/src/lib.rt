@@ -6,6 +6,8 @@
 //!
 //! The definitions stand in `specs/`: `Places` (where the bits of a signal come from, and the first fault
 //! of a map), `Digits` (what bits a value has) and `Samples` (the instants of a waveform, and its samples).
+//! `Written` says what the samples of written text are: the buses that were written, by the law of
+//! `written_buses_sample_back`.
 #![tactic(auto)]
 
 mod digits;

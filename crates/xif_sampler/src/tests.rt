@@ -128,21 +128,32 @@ fn shows(sample: &Sample, table: &[Bits]) -> bool {
     true
 }
 
-/// The samples of these items, by a map of these places among these variables.
-fn run(
+/// Whether these items, by a map of these places among these variables, have the samples of the tables.
+fn gives(
     alloc: Global,
     variables: &[(&'static str, u32, u32)],
     places: &[(Signal, Spot)],
     items: &[Item],
-) -> Result<Vec<Sample>, Fail> {
+    tables: &[&[Bits]],
+) -> Result<bool, Fail> {
     let declarations = declared(alloc, variables)?;
     let map = map_of(alloc, places)?;
-    Ok(sample_items(alloc, &map, &declarations, &PARAMS, items)?)
+    let samples = sample_items(alloc, &map, &declarations, &PARAMS, items)?;
+    Ok(samples.len() == tables.len() && all_show(&samples, tables))
+}
+
+fn all_show(samples: &[Sample], tables: &[&[Bits]]) -> bool {
+    for (sample, table) in samples.iter().zip(tables.iter()) {
+        if !shows(sample, table) {
+            return false;
+        }
+    }
+    true
 }
 
 // A waveform of packed signals, which are unknown at first.
 
-const PACKED: [(&str, u32, u32); 6] = [
+static PACKED: [(&str, u32, u32); 6] = [
     ("top.clk", 0, 1),
     ("top.rst_n", 1, 1),
     ("top.xif.issue_valid", 2, 1),
@@ -151,7 +162,7 @@ const PACKED: [(&str, u32, u32); 6] = [
     ("top.xif.issue_resp", 5, 4),
 ];
 
-const PACKED_PLACES: [(Signal, Spot); 10] = [
+static PACKED_PLACES: [(Signal, Spot); 10] = [
     (Signal::Clk, Spot::Named("top.clk", 0, None)),
     (Signal::RstN, Spot::Named("top.rst_n", 0, None)),
     (
@@ -188,7 +199,7 @@ const PACKED_PLACES: [(Signal, Spot); 10] = [
     ),
 ];
 
-const PACKED_LINES: [Line; 28] = [
+static PACKED_LINES: [Line; 28] = [
     Line::At(0),
     Line::Is(0, "x"),
     Line::Is(1, "0"),
@@ -219,8 +230,8 @@ const PACKED_LINES: [Line; 28] = [
     Line::Is(0, "0"),
 ];
 
-const PACKED_SAMPLES: [[Bits; 9]; 3] = [
-    [
+static PACKED_SAMPLES: [&[Bits]; 3] = [
+    &[
         (Signal::RstN, 0, 0),
         (Signal::IssueValid, 0, 1),
         (Signal::IssueReady, 0, 1),
@@ -231,7 +242,7 @@ const PACKED_SAMPLES: [[Bits; 9]; 3] = [
         (Signal::IssueWriteback, 0, 1),
         (Signal::IssueRegisterRead, 0, 3),
     ],
-    [
+    &[
         (Signal::RstN, 1, 0),
         (Signal::IssueValid, 0, 0),
         (Signal::IssueReady, 0, 0),
@@ -242,7 +253,7 @@ const PACKED_SAMPLES: [[Bits; 9]; 3] = [
         (Signal::IssueWriteback, 0, 1),
         (Signal::IssueRegisterRead, 0, 3),
     ],
-    [
+    &[
         (Signal::RstN, 1, 0),
         (Signal::IssueValid, 1, 0),
         (Signal::IssueReady, 1, 0),
@@ -258,111 +269,129 @@ const PACKED_SAMPLES: [[Bits; 9]; 3] = [
 #[test]
 fn packed_signals(rt: HostRuntime) -> Result<(), Fail> {
     let items = items_of(rt.alloc(), &PACKED_LINES)?;
-    let samples = run(rt.alloc(), &PACKED, &PACKED_PLACES, &items)?;
-    assert_eq!(rt; samples.len(), 3);
-    for (sample, table) in samples.iter().zip(PACKED_SAMPLES.iter()) {
-        assert!(rt; shows(sample, table));
-    }
+    assert!(rt; gives(rt.alloc(), &PACKED, &PACKED_PLACES, &items, &PACKED_SAMPLES)?);
     Ok(())
 }
 
 // Values of a variable of 100 bits, of which some are extended by 0, x or z: the digits, and the number and
 // the unknown bits of bits 2 to 4, 0 to 63 and 36 to 99.
 
-const LONG_PLACES: [(Signal, Spot); 4] = [
+static LONG_NAMES: [(&str, u32, u32); 2] = [("c", 0, 1), ("wide", 1, 100)];
+
+static LONG_PLACES: [(Signal, Spot); 4] = [
     (Signal::Clk, Spot::Named("c", 0, None)),
     (Signal::RegisterId, Spot::Named("wide", 2, None)),
     (Signal::RegisterRs0, Spot::Named("wide", 0, None)),
     (Signal::RegisterRs1, Spot::Named("wide", 36, Some(99))),
 ];
 
-const LONG: [(&str, [(u64, u64); 3]); 14] = [
-    (
-        "x",
-        [
-            (0, 0x7),
-            (0, 0xffff_ffff_ffff_ffff),
-            (0, 0xffff_ffff_ffff_ffff),
-        ],
-    ),
-    ("0", [(0, 0), (0, 0), (0, 0)]),
-    ("1", [(0, 0), (1, 0), (0, 0)]),
-    (
-        "z",
-        [
-            (0, 0x7),
-            (0, 0xffff_ffff_ffff_ffff),
-            (0, 0xffff_ffff_ffff_ffff),
-        ],
-    ),
-    (
-        "x1",
-        [
-            (0, 0x7),
-            (1, 0xffff_ffff_ffff_fffe),
-            (0, 0xffff_ffff_ffff_ffff),
-        ],
-    ),
-    (
-        "z0101",
-        [
-            (1, 0x4),
-            (5, 0xffff_ffff_ffff_fff0),
-            (0, 0xffff_ffff_ffff_ffff),
-        ],
-    ),
-    ("1x0z1", [(4, 0x2), (0x11, 0xa), (0, 0)]),
-    (
-        "111111111111111111111111111111111111",
-        [(7, 0), (0xf_ffff_ffff, 0), (0, 0)],
-    ),
-    (
-        "xxxxxxxxxxxxxxxxxxxxxxxxxxxxxxxxxxxx0",
-        [
-            (0, 0x7),
-            (0, 0xffff_ffff_ffff_fffe),
-            (0, 0xffff_ffff_ffff_ffff),
-        ],
-    ),
-    (
-        "z1z1z1z1z1z1z1z1z1z1z1z1z1z1z1z1z1z1z1z1z1z1z1z1z1z1z1z1z1z1z1z1",
-        [
-            (0x5, 0x2),
-            (0x5555_5555_5555_5555, 0xaaaa_aaaa_aaaa_aaaa),
-            (0x555_5555, 0xffff_ffff_faaa_aaaa),
-        ],
-    ),
-    (
-        "10000000000000000000000000000000000000000000000000000000000000001",
-        [(0, 0), (1, 0), (0x1000_0000, 0)],
-    ),
-    (
-        "1000000000000000000000000000000000000000000000000000000000000000000000000000000000000000000000000000",
-        [(0, 0), (0, 0), (0x8000_0000_0000_0000, 0)],
-    ),
-    (
-        "x111111111111111111111111111111111111111111111111111111111111111111111111111111111111111111111111111",
-        [
-            (0x7, 0),
-            (0xffff_ffff_ffff_ffff, 0),
-            (0x7fff_ffff_ffff_ffff, 0x8000_0000_0000_0000),
-        ],
-    ),
-    (
-        "1xz100z01xxzz100zx111z01zx10zx1z1zzxzxxzz10z1zx10zxx0x0xxxzxxx10zxxxzxxxxxzx1",
-        [
-            (0, 0x7),
-            (0x8724_5009_2000_4001, 0x1899_aff2_cebf_9ffe),
-            (0x121_0872_4500, 0xc4_f189_9aff),
-        ],
-    ),
+static LONG: [&str; 14] = [
+    "x",
+    "0",
+    "1",
+    "z",
+    "x1",
+    "z0101",
+    "1x0z1",
+    "111111111111111111111111111111111111",
+    "xxxxxxxxxxxxxxxxxxxxxxxxxxxxxxxxxxxx0",
+    "z1z1z1z1z1z1z1z1z1z1z1z1z1z1z1z1z1z1z1z1z1z1z1z1z1z1z1z1z1z1z1z1",
+    "10000000000000000000000000000000000000000000000000000000000000001",
+    "1000000000000000000000000000000000000000000000000000000000000000000000000000000000000000000000000000",
+    "x111111111111111111111111111111111111111111111111111111111111111111111111111111111111111111111111111",
+    "1xz100z01xxzz100zx111z01zx10zx1z1zzxzxxzz10z1zx10zxx0x0xxxzxxx10zxxxzxxxxxzx1",
+];
+
+static LONG_SAMPLES: [&[Bits]; 14] = [
+    &[
+        (Signal::RegisterId, 0, 0x7),
+        (Signal::RegisterRs0, 0, 0xffff_ffff_ffff_ffff),
+        (Signal::RegisterRs1, 0, 0xffff_ffff_ffff_ffff),
+    ],
+    &[
+        (Signal::RegisterId, 0, 0),
+        (Signal::RegisterRs0, 0, 0),
+        (Signal::RegisterRs1, 0, 0),
+    ],
+    &[
+        (Signal::RegisterId, 0, 0),
+        (Signal::RegisterRs0, 1, 0),
+        (Signal::RegisterRs1, 0, 0),
+    ],
+    &[
+        (Signal::RegisterId, 0, 0x7),
+        (Signal::RegisterRs0, 0, 0xffff_ffff_ffff_ffff),
+        (Signal::RegisterRs1, 0, 0xffff_ffff_ffff_ffff),
+    ],
+    &[
+        (Signal::RegisterId, 0, 0x7),
+        (Signal::RegisterRs0, 1, 0xffff_ffff_ffff_fffe),
+        (Signal::RegisterRs1, 0, 0xffff_ffff_ffff_ffff),
+    ],
+    &[
+        (Signal::RegisterId, 1, 0x4),
+        (Signal::RegisterRs0, 5, 0xffff_ffff_ffff_fff0),
+        (Signal::RegisterRs1, 0, 0xffff_ffff_ffff_ffff),
+    ],
+    &[
+        (Signal::RegisterId, 4, 0x2),
+        (Signal::RegisterRs0, 0x11, 0xa),
+        (Signal::RegisterRs1, 0, 0),
+    ],
+    &[
+        (Signal::RegisterId, 7, 0),
+        (Signal::RegisterRs0, 0xf_ffff_ffff, 0),
+        (Signal::RegisterRs1, 0, 0),
+    ],
+    &[
+        (Signal::RegisterId, 0, 0x7),
+        (Signal::RegisterRs0, 0, 0xffff_ffff_ffff_fffe),
+        (Signal::RegisterRs1, 0, 0xffff_ffff_ffff_ffff),
+    ],
+    &[
+        (Signal::RegisterId, 0x5, 0x2),
+        (
+            Signal::RegisterRs0,
+            0x5555_5555_5555_5555,
+            0xaaaa_aaaa_aaaa_aaaa,
+        ),
+        (Signal::RegisterRs1, 0x555_5555, 0xffff_ffff_faaa_aaaa),
+    ],
+    &[
+        (Signal::RegisterId, 0, 0),
+        (Signal::RegisterRs0, 1, 0),
+        (Signal::RegisterRs1, 0x1000_0000, 0),
+    ],
+    &[
+        (Signal::RegisterId, 0, 0),
+        (Signal::RegisterRs0, 0, 0),
+        (Signal::RegisterRs1, 0x8000_0000_0000_0000, 0),
+    ],
+    &[
+        (Signal::RegisterId, 0x7, 0),
+        (Signal::RegisterRs0, 0xffff_ffff_ffff_ffff, 0),
+        (
+            Signal::RegisterRs1,
+            0x7fff_ffff_ffff_ffff,
+            0x8000_0000_0000_0000,
+        ),
+    ],
+    &[
+        (Signal::RegisterId, 0, 0x7),
+        (
+            Signal::RegisterRs0,
+            0x8724_5009_2000_4001,
+            0x1899_aff2_cebf_9ffe,
+        ),
+        (Signal::RegisterRs1, 0x121_0872_4500, 0xc4_f189_9aff),
+    ],
 ];
 
 /// Each value before a rise of the clock.
 fn long_items(alloc: Global) -> Result<Vec<Item>, Fail> {
     let mut items = Vec::new(alloc);
     let mut time = 0u64;
-    for (text, _) in LONG.iter() {
+    for text in LONG.iter() {
         for line in [
             Line::At(time),
             Line::Is(0, "0"),
@@ -380,29 +409,15 @@ fn long_items(alloc: Global) -> Result<Vec<Item>, Fail> {
 #[test]
 fn bits_of_a_long_value(rt: HostRuntime) -> Result<(), Fail> {
     let items = long_items(rt.alloc())?;
-    let samples = run(
-        rt.alloc(),
-        &[("c", 0, 1), ("wide", 1, 100)],
-        &LONG_PLACES,
-        &items,
-    )?;
-    assert_eq!(rt; samples.len(), LONG.len());
-    for (sample, (_, [id, rs0, rs1])) in samples.iter().zip(LONG.iter()) {
-        let expected = [
-            (Signal::RegisterId, id.0, id.1),
-            (Signal::RegisterRs0, rs0.0, rs0.1),
-            (Signal::RegisterRs1, rs1.0, rs1.1),
-        ];
-        assert!(rt; shows(sample, &expected));
-    }
+    assert!(rt; gives(rt.alloc(), &LONG_NAMES, &LONG_PLACES, &items, &LONG_SAMPLES)?);
     Ok(())
 }
 
 // A clock that rises twice, and one that is unknown before its only 1.
 
-const CLOCK: [(&str, u32, u32); 1] = [("c", 0, 1)];
+static CLOCK: [(&str, u32, u32); 1] = [("c", 0, 1)];
 
-const ONES: [(Signal, Spot); 5] = [
+static ONES: [(Signal, Spot); 5] = [
     (Signal::Clk, Spot::Named("c", 0, None)),
     (Signal::RstN, Spot::Number(1)),
     (Signal::IssueValid, Spot::Number(1)),
@@ -410,14 +425,16 @@ const ONES: [(Signal, Spot); 5] = [
     (Signal::IssueAccept, Spot::Number(1)),
 ];
 
-const SHOWN: [Bits; 4] = [
+const SHOWN: &[Bits] = &[
     (Signal::RstN, 1, 0),
     (Signal::IssueValid, 1, 0),
     (Signal::IssueReady, 1, 0),
     (Signal::IssueAccept, 1, 0),
 ];
 
-const RISES: [Line; 8] = [
+static TWICE: [&[Bits]; 2] = [SHOWN, SHOWN];
+
+static RISES: [Line; 8] = [
     Line::At(0),
     Line::Is(0, "0"),
     Line::At(5),
@@ -428,36 +445,18 @@ const RISES: [Line; 8] = [
     Line::Is(0, "1"),
 ];
 
-const UNKNOWN: [Line; 4] = [Line::At(0), Line::Is(0, "x"), Line::At(5), Line::Is(0, "1")];
+static UNKNOWN: [Line; 4] = [Line::At(0), Line::Is(0, "x"), Line::At(5), Line::Is(0, "1")];
 
 #[test]
 fn rises_of_the_clock(rt: HostRuntime) -> Result<(), Fail> {
-    let items = items_of(rt.alloc(), &RISES)?;
-    let samples = run(rt.alloc(), &CLOCK, &ONES, &items)?;
-    assert_eq!(rt; samples.len(), 2);
-    for sample in samples.iter() {
-        assert!(rt; shows(sample, &SHOWN));
-    }
-    let items = items_of(rt.alloc(), &UNKNOWN)?;
-    assert!(rt; run(rt.alloc(), &CLOCK, &ONES, &items)?.is_empty());
+    let rises = items_of(rt.alloc(), &RISES)?;
+    assert!(rt; gives(rt.alloc(), &CLOCK, &ONES, &rises, &TWICE)?);
+    let unknown = items_of(rt.alloc(), &UNKNOWN)?;
+    assert!(rt; gives(rt.alloc(), &CLOCK, &ONES, &unknown, &[])?);
     Ok(())
 }
 
-#[test]
-fn item_by_item(rt: HostRuntime) -> Result<(), Fail> {
-    let declarations = declared(rt.alloc(), &CLOCK)?;
-    let map = map_of(rt.alloc(), &ONES)?;
-    let mut sampler = Sampler::new(rt.alloc(), &map, &declarations, &PARAMS)?;
-    sampler.change(0, &digits_of(rt.alloc(), "0")?);
-    assert!(rt; sampler.time(5).is_none());
-    sampler.change(0, &digits_of(rt.alloc(), "1")?);
-    assert!(rt; sampler.time(5).is_none());
-    let last = sampler.finish();
-    assert!(rt; last.is_some_and(|sample| shows(&sample, &SHOWN)));
-    Ok(())
-}
-
-const NAMES: [(&str, u32, u32); 9] = [
+static NAMES: [(&str, u32, u32); 9] = [
     ("c", 0, 1),
     ("byte", 1, 8),
     ("twice", 2, 1),
@@ -469,7 +468,7 @@ const NAMES: [(&str, u32, u32); 9] = [
     ("xif.rst_nn", 0, 1),
 ];
 
-const FITS: [(Signal, Spot, Option<MapFault>); 20] = [
+static FITS: [(Signal, Spot, Option<MapFault>); 20] = [
     (Signal::Clk, Spot::Named("c", 0, None), None),
     (
         Signal::Clk,
