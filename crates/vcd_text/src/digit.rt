@@ -1,16 +1,18 @@
 // The digits of a value, and a value as a list of them.
 ghost use Rattle.std.specs.Prelude.{◌≡◌, ◌<◌, ◌++◌, [], ◌∷◌, Some, length, slice_get, OnOk, OnErr};
 
+use smallvec::SmallVec;
 use std::alloc::Global;
 use std::marker::Model;
 use xif_base::NoMemory;
 
 /// One of the four values of a bit (IEEE 1364-2005, 18.2.2).
-#[derive(Clone, Copy, Debug, PartialEq, Eq)]
+#[derive(Clone, Copy, Debug, Default, PartialEq, Eq)]
 pub enum Digit {
     Zero,
     One,
     /// Unknown.
+    #[default]
     X,
     /// High impedance.
     Z,
@@ -19,7 +21,8 @@ pub enum Digit {
 /// The digits of a value as they are written, the leftmost first.
 #[derive(Debug, Drop)]
 pub struct Digits {
-    items: Vec<Digit>,
+    // Most values have no more digits than this, and take no memory of their own.
+    items: SmallVec<Digit, 32>,
 }
 
 impl Model for Digits {
@@ -36,7 +39,7 @@ impl Digits {
         ensures { result ≡ [] }
     {
         Digits {
-            items: Vec::new(alloc),
+            items: SmallVec::new(alloc),
         }
     }
 
@@ -59,12 +62,12 @@ impl Digits {
         requires { i < length self.now }
         ensures { slice_get self.now i ≡ Some result.now }
     {
-        &self.items[i]
+        &self.items.as_slice()[i]
     }
 
     pub fn as_slice(&self) -> &[Digit]
         ensures { result.now ≡ self.now }
     {
-        &self.items
+        self.items.as_slice()
     }
 }
