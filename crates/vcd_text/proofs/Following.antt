@@ -1,11 +1,10 @@
 -- A scanner that takes one byte more.
-use Rattle.std.proofs.Common.{◌≡◌, ◌+◌, ℕ, Bool, true, false, cond, List, [], ◌∷◌, ◌++◌, length, refl, sym, ap, ◌∙◌, append_assoc, arith, Option, None, Some, Result, Ok, Err, not, ◌&&◌, true≢false, take, drop}
+use Rattle.std.proofs.Common.{◌≡◌, ◌+◌, ℕ, Bool, true, false, cond, List, [], ◌∷◌, ◌++◌, length, refl, sym, ap, ◌∙◌, append_assoc, arith, Option, None, Some, not, ◌&&◌, true≢false, take, drop}
 use Rattle.std.specs.List.{fold, list_all}
 use Rattle.std.proofs.lemmas.List.{append-nil, length-append, take-append-drop, nil_from_length}
 use Rattle.vcd_text.specs.declared.fault.VcdFault.{VcdFault}
 use Rattle.vcd_text.specs.declared.item.Item.{Item}
 use Rattle.vcd_text.specs.declared.scanner.Scanner.{Scanner}
-use Rattle.vcd_text.specs.declared.state.State.{State}
 use Rattle.vcd_text.specs.Words.{is_white, is_ink}
 use Rattle.vcd_text.specs.Tokens.{Token, rest, complete, token_before}
 use Rattle.vcd_text.specs.Reading.{Read, go, read_so_far}

@@ -1,7 +1,16 @@
 //! Waveforms as text: value change dumps with four values (IEEE 1364-2005, clause 18).
 //!
-//! A reader gives the items of a text, its times and its changes of values, in order, and the variables
-//! that it declares; a writer gives the text of a list of buses.
+//! A reader takes a text in pieces and gives its items, its times and its changes of values, in order, and
+//! the variables that it declares; a writer gives the text of a list of buses.
+//!
+//! The layers above may use `Reader`. What it gives is what the text says, however it is cut, and its fault
+//! is the text's. They may cite `fault_law` (the fault of a front is the text's) and `reading_law` (every
+//! reading is well formed).
+//!
+//! The definitions stand in `specs/`: `Words` (what single tokens are), `Tokens` (the tokens of a text),
+//! `Codes` (identifier codes), `Grammar` (what a token says, or its fault), `Reading` (what a text says),
+//! `Sizes` (what every reading keeps), `Reader` (for which text a reader stands). `Scanner`, `Steps` and
+//! `Sound` are of the proof alone.
 #![tactic(auto)]
 
 mod codes;

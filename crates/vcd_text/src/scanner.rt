@@ -236,12 +236,18 @@ impl Scanner {
                 if self.state.is_declared {
                     return None;
                 }
-                Some(VcdFault { at: self.size, cause: VcdCause::NoDefinitionsEnd })
+                Some(VcdFault {
+                    at: self.size,
+                    cause: VcdCause::NoDefinitionsEnd,
+                })
             }
             Part::Block { at, .. }
             | Part::Skipped { at }
             | Part::Vector { at, .. }
-            | Part::Passed { at } => Some(VcdFault { at: *at, cause: VcdCause::OpenBlock }),
+            | Part::Passed { at } => Some(VcdFault {
+                at: *at,
+                cause: VcdCause::OpenBlock,
+            }),
         }
     }
 }

@@ -16,11 +16,18 @@ pub enum Part {
         words: Words,
     },
     /// A block that is passed over.
-    Skipped { at: u64 },
+    Skipped {
+        at: u64,
+    },
     /// The digits of a change, before its code.
-    Vector { at: u64, digits: Digits },
+    Vector {
+        at: u64,
+        digits: Digits,
+    },
     /// The first token of a change of a real number or a string, before its second.
-    Passed { at: u64 },
+    Passed {
+        at: u64,
+    },
 }
 
 /// What the tokens so far say that the next ones depend on.

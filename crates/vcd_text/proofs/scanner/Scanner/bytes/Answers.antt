@@ -1,4 +1,4 @@
-use Rattle.std.proofs.Common.{◌≡◌, ◌++◌, [], ◌∷◌, sym, ap, ◌∙◌, subst, arith, length}
+use Rattle.std.proofs.Common.{◌≡◌, ◌++◌, [], ◌∷◌, sym, ap, ◌∙◌, subst, arith}
 use Rattle.std.proofs.lemmas.Bool.Decides.{nat_tests}
 use Rattle.std.proofs.lemmas.List.{append-nil, nil_from_length}
 use Rattle.vcd_text.specs.Scanner.{Follows}
@@ -12,11 +12,11 @@ loop-rest-preserved c = record {
   codes = c.in_ok-word_and-in-Some.ensures.codes;
   onward = onward-then _ _ _ c.loop-rest.invariant.onward c.in_ok-word_and-in-Some.ensures.onward;
   follows = λ new taken h text f.
-    c.loop-rest.invariant.follows new taken (λ t g.
-    let word = c.split_at.result.0.now in
-    let next = c.in-Some.next.now in
-    let parts = three_parts c.loop-rest.rest.now word c.split_at.result.1.now c.in-Some.tail.now c.word_len.result next c.split_at.ensures.front c.split_at.ensures.back c.in-Some.ensures.cases.0 t in
-    subst (λ x. Follows new x taken) parts (h (t ++ word ++ next ∷ []) (c.in_ok-word_and-in-Some.ensures.follows t taken g))) text f;
+      c.loop-rest.invariant.follows new taken (λ t g.
+      let word = c.split_at.result.0.now in
+      let next = c.in-Some.next.now in
+      let parts = three_parts c.loop-rest.rest.now word c.split_at.result.1.now c.in-Some.tail.now c.word_len.result next c.split_at.ensures.front c.split_at.ensures.back c.in-Some.ensures.cases.0 t in
+      subst (λ x. Follows new x taken) parts (h (t ++ word ++ next ∷ []) (c.in_ok-word_and-in-Some.ensures.follows t taken g))) text f;
 }
 
 pub returns-in-None-clause-follows : goal.returns-in-None-clause-follows

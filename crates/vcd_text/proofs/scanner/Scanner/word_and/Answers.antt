@@ -1,7 +1,6 @@
-use Rattle.std.proofs.Common.{◌≡◌, ◌++◌, [], ◌∷◌, sym, ◌∙◌, append_assoc, subst, arith}
+use Rattle.std.proofs.Common.{◌≡◌, ◌++◌, [], ◌∷◌, sym, ◌∙◌, arith}
 use Rattle.std.proofs.lemmas.Bool.Decides.{nat_tests}
 use Rattle.std.proofs.lemmas.List.{nil_from_length}
-use Rattle.vcd_text.specs.Scanner.{Follows}
 use Rattle.vcd_text.specs.Tokens.{token_before}
 use Rattle.vcd_text.proofs.Following.{follows-faulty, follows-token}
 use Rattle.vcd_text.proofs.SoundReading.{onward-read}
