@@ -1,15 +1,14 @@
 -- A scanner that takes one byte more.
-use Rattle.std.proofs.Common.{◌≡◌, ◌+◌, ℕ, Bool, true, false, cond, List, [], ◌∷◌, ◌++◌, length, refl, sym, ap, ◌∙◌, append_assoc, arith, Option, None, Some, Result, Ok, Err}
-use Rattle.std.specs.List.{fold}
-use Rattle.std.proofs.lemmas.List.{append-nil, length-append}
+use Rattle.std.proofs.Common.{◌≡◌, ◌+◌, ℕ, Bool, true, false, cond, List, [], ◌∷◌, ◌++◌, length, refl, sym, ap, ◌∙◌, append_assoc, arith, Option, None, Some, not, ◌&&◌, true≢false, take, drop}
+use Rattle.std.specs.List.{fold, list_all}
+use Rattle.std.proofs.lemmas.List.{append-nil, length-append, take-append-drop, nil_from_length}
 use Rattle.vcd_text.specs.declared.fault.VcdFault.{VcdFault}
 use Rattle.vcd_text.specs.declared.item.Item.{Item}
 use Rattle.vcd_text.specs.declared.scanner.Scanner.{Scanner}
-use Rattle.vcd_text.specs.declared.state.State.{State}
-use Rattle.vcd_text.specs.Words.{is_white}
+use Rattle.vcd_text.specs.Words.{is_white, is_ink}
 use Rattle.vcd_text.specs.Tokens.{Token, rest, complete, token_before}
 use Rattle.vcd_text.specs.Reading.{Read, go, read_so_far}
-use Rattle.vcd_text.specs.Scanner.{Follows, Steps, outcome, read_by}
+use Rattle.vcd_text.specs.Scanner.{Follows, Steps, TakesToken, outcome, read_by}
 use Rattle.vcd_text.proofs.Texts.{rest-append, read_so_far-append, faulty_front}
 
 -- what one more byte completes
@@ -60,5 +59,59 @@ follows-faulty s f text more taken e h =
       run = λ no. let not : none ≡ Some f = sym no ∙ e in cc;
     }
 
-pub follows-more : (s : Scanner) (b : ℕ) (text front more : List ℕ) (taken : List Item) → more ≡ front ++ b ∷ [] → Follows s (text ++ front ++ b ∷ []) taken → Follows s (text ++ more) taken
-follows-more s b text front more taken e h = rw (e, ← append_assoc text front (b ∷ [])) h
+-- ---- bytes that aren't white space
+
+inked : (b : ℕ) (bs : List ℕ) → list_all is_ink (b ∷ bs) ≡ true → (is_white b ≡ false) × (list_all is_ink bs ≡ true)
+inked b bs h = by (is_white b) refl
+  where
+    by : (w : Bool) → is_white b ≡ w → (is_white b ≡ false) × (list_all is_ink bs ≡ true)
+    by true e = absurd (true≢false (sym h ∙ ap (λ w. not w && list_all is_ink bs) e))
+    by false e = (e, sym (ap (λ w. not w && list_all is_ink bs) e) ∙ h)
+
+complete-ink : (run : List ℕ) (at : ℕ) (word : List ℕ) → list_all is_ink word ≡ true → complete run at word ≡ []
+complete-ink run at [] h = refl
+complete-ink run at (b ∷ bs) h = let k = inked b bs h in rw k.0 (complete-ink (run ++ b ∷ []) (at + 1) bs k.1)
+
+rest-ink : (run word : List ℕ) → list_all is_ink word ≡ true → rest run word ≡ run ++ word
+rest-ink run [] h = sym (append-nil run)
+rest-ink run (b ∷ bs) h = let k = inked b bs h in rw k.0 (rest-ink (run ++ b ∷ []) bs k.1 ∙ append_assoc run (b ∷ []) bs)
+
+read_so_far-ink : (text word : List ℕ) → list_all is_ink word ≡ true → read_so_far (text ++ word) ≡ read_so_far text
+read_so_far-ink text word h = read_so_far-append text word ∙ ap (fold go (read_so_far text)) (complete-ink (rest [] text) (length text) word h)
+
+pub follows-word : (old new : Scanner) (text word : List ℕ) (taken : List Item) → old.fault ≡ None → list_all is_ink word ≡ true
+    → new.size ≡ old.size + length word → new.run.items ≡ old.run.items ++ word → read_by new taken ≡ read_by old taken
+    → Follows old text taken → Follows new (text ++ word) taken
+follows-word old new text word taken none ink size run read h = record {
+  read = read ∙ h.read ∙ sym (read_so_far-ink text word ink);
+  size = λ _. omega (arith, size, h.size none, length-append text word);
+  run = λ _. run ∙ ap (λ x. x ++ word) (h.run none) ∙ sym (rest-ink (rest [] text) word ink) ∙ sym (rest-append [] text word);
+}
+
+pub follows-token : (old new : Scanner) (b : ℕ) (text token : List ℕ) (taken : List Item) → old.fault ≡ None → old.run.items ≡ [] → list_all is_ink token ≡ true → is_white b ≡ true
+    → TakesToken old new token → Follows old text taken → Follows new (text ++ token ++ b ∷ []) taken
+follows-token old new b text token taken none empty ink white s h =
+    let size : old.size + length token ≡ length (text ++ token) = omega (arith, h.size none, length-append text token) in
+    let run : token ≡ rest [] (text ++ token) =
+    ap (λ x. x ++ token) (sym empty ∙ h.run none) ∙ sym (rest-ink (rest [] text) token ink) ∙ sym (rest-append [] text token) in
+    record {
+      read =
+          s.read taken
+          ∙ ap (λ r. fold go r (token_before (old.size + length token) token)) (h.read ∙ sym (read_so_far-ink text token ink))
+          ∙ ap (λ n. fold go (read_so_far (text ++ token)) (token_before n token)) size
+          ∙ ap (λ x. fold go (read_so_far (text ++ token)) (token_before (length (text ++ token)) x)) run
+          ∙ sym (read_so_far-push (text ++ token) b ∙ ap (λ w. cond w (fold go (read_so_far (text ++ token)) (token_before (length (text ++ token)) (rest [] (text ++ token)))) (read_so_far (text ++ token))) white);
+      size = λ _. omega (arith, s.size, size, length-append (text ++ token) (b ∷ []));
+      run = λ _. s.run ∙ sym (rest-append [] (text ++ token) (b ∷ []) ∙ rest-push (rest [] (text ++ token)) b true white);
+    }
+
+-- ---- a list in pieces
+
+pub three_parts : (rest word more tail : List ℕ) (n b : ℕ) → word ≡ take n rest → more ≡ drop n rest → more ≡ b ∷ tail → (text : List ℕ) → text ++ word ++ b ∷ [] ++ tail ≡ text ++ rest
+three_parts rest word more tail n b w m e text =
+    append_assoc (text ++ word) (b ∷ []) tail ∙ append_assoc text word (b ∷ tail)
+    ∙ ap (λ x. text ++ (word ++ x)) (sym e ∙ m) ∙ ap (λ x. text ++ (x ++ drop n rest)) w ∙ ap (λ x. text ++ x) (take-append-drop n rest)
+
+pub one_part : (rest word more : List ℕ) (n : ℕ) → word ≡ take n rest → more ≡ drop n rest → length more ≡ 0 → word ≡ rest
+one_part rest word more n w m e =
+    sym (append-nil word) ∙ ap (λ x. word ++ x) (sym (nil_from_length more e) ∙ m) ∙ ap (λ x. x ++ drop n rest) w ∙ take-append-drop n rest

@@ -1,17 +1,14 @@
 -- What is read fits what was declared.
-use Rattle.std.proofs.Common.{◌≡◌, ◌≤◌, ◌<◌, ◌+◌, ◌-◌, ◌==◌, ℕ, suc, zero, Bool, true, false, cond, nat_le, nat_eq, List, [], ◌∷◌, ◌++◌, length, slice_get, get_or, refl, sym, ap, ◌∙◌, subst, arith, Option, None, Some, Result, Ok, Err, true≢false, le_refl, lit≤}
-use Rattle.std.specs.Prelude.{IsSomeAnd, IfSome, All, nat_lt, ◌&&◌, ◌||◌}
-use Rattle.std.specs.Option.{option_map, option_to_list}
-use Rattle.std.specs.List.{fold}
+use Rattle.std.proofs.Common.{◌≡◌, ◌≤◌, ◌+◌, ◌==◌, ℕ, suc, zero, Bool, true, false, cond, nat_le, List, [], ◌∷◌, ◌++◌, length, get_or, refl, sym, ap, ◌∙◌, subst, arith, Option, None, Some, Ok, Err, true≢false, le_refl, lit≤}
+use Rattle.std.specs.Prelude.{IsSomeAnd, IfSome, nat_lt, ◌&&◌, ◌||◌}
+use Rattle.std.specs.Option.{option_map}
 use Rattle.std.specs.Str.{bytes_eq, is_utf8}
-use Rattle.std.proofs.lemmas.List.Elements.{All-nil, All-append, All-push}
+use Rattle.std.proofs.lemmas.List.Elements.{All-push}
 use Rattle.std.proofs.lemmas.Bool.{leb-true, eqb-true, eq-eqb}
 use Rattle.std.proofs.lemmas.Bool.Decides.{nat_tests}
 use Rattle.std.proofs.lemmas.Option.{slice_get_past}
 use Rattle.vcd_text.specs.declared.declaration.Variable.{Variable}
 use Rattle.vcd_text.specs.declared.digit.Digit.{Digit}
-use Rattle.vcd_text.specs.declared.fault.VcdCause.{VcdCause}
-use Rattle.vcd_text.specs.declared.fault.VcdFault.{VcdFault}
 use Rattle.vcd_text.specs.declared.item.Item.{Item}
 use Rattle.vcd_text.specs.declared.item.Item.TheVariants.{Time, Change}
 use Rattle.vcd_text.specs.declared.keyword.Keyword.{Keyword}
@@ -22,7 +19,7 @@ use Rattle.vcd_text.specs.declared.state.State.{State}
 use Rattle.vcd_text.specs.Codes.{Code, code_from}
 use Rattle.vcd_text.specs.Tokens.{Token}
 use Rattle.vcd_text.specs.Words.{number, digit, digits, keyword, is_command, is_end, is_code}
-use Rattle.vcd_text.specs.Grammar.{Step, fault, goes, with_part, change_of, change, time_of, scalar, vector, command, body, var_at, var_sized, var, scope, upscope, block, opened, declaration, kept, declared, full_name, in_part, step}
+use Rattle.vcd_text.specs.Grammar.{Step, goes, with_part, change_of, change, time_of, scalar, vector, command, body, var_at, var_sized, var, scope, upscope, block, opened, kept, declared, full_name, in_part, step}
 use Rattle.vcd_text.specs.Sizes.{size_of, AreConsistent, FitsDeclared}
 use Rattle.vcd_text.specs.Sound.{size_at, IsPlaced, IsSound}
 

@@ -1,10 +1,10 @@
 -- All that is read fits what was declared.
-use Rattle.std.proofs.Common.{◌≡◌, ◌<◌, ℕ, suc, Bool, true, false, cond, List, [], ◌∷◌, ◌++◌, length, drop, get_or, refl, sym, ap, ◌∙◌, subst, arith, Option, None, Some, Result, Ok, Err, true≢false}
+use Rattle.std.proofs.Common.{◌≡◌, ℕ, suc, Bool, true, false, cond, List, [], ◌∷◌, ◌++◌, drop, refl, sym, ap, ◌∙◌, subst, arith, Option, None, Some, Result, Ok, Err, true≢false}
 use Rattle.std.specs.Prelude.{IfSome, All}
 use Rattle.std.specs.Option.{option_to_list}
 use Rattle.std.specs.List.{fold}
 use Rattle.std.proofs.lemmas.List.{append-nil}
-use Rattle.std.proofs.lemmas.List.Elements.{All-nil, All-append, All-push}
+use Rattle.std.proofs.lemmas.List.Elements.{All-nil, All-push}
 use Rattle.vcd_text.specs.declared.declaration.Variable.{Variable}
 use Rattle.vcd_text.specs.declared.fault.VcdFault.{VcdFault}
 use Rattle.vcd_text.specs.declared.item.Item.{Item}

@@ -9,8 +9,8 @@ use Rattle.vcd_text.specs.declared.scanner.Scanner.{Scanner}
 use Rattle.vcd_text.specs.declared.state.Part.{Part}
 use Rattle.vcd_text.specs.declared.state.Part.TheVariants.{Nothing, Block, Skipped, Vector, Passed}
 use Rattle.vcd_text.specs.declared.state.State.{State}
-use Rattle.vcd_text.specs.Tokens.{rest, token_before}
-use Rattle.vcd_text.specs.Reading.{Read, Reading, go, read_so_far, read_whole, reading_of, reading_by, declared_by, ends, fault_in, fault_at_end}
+use Rattle.vcd_text.specs.Tokens.{token_before}
+use Rattle.vcd_text.specs.Reading.{Read, go, read_so_far, read_whole, reading_of, reading_by, declared_by, ends, fault_in, fault_at_end}
 use Rattle.vcd_text.specs.Reader.{Progress, Stands}
 use Rattle.vcd_text.specs.Scanner.{Follows, outcome, read_by, progress_of}
 use Rattle.vcd_text.proofs.Texts.{faulty_front}
@@ -35,12 +35,14 @@ pub stands-faulty : (p : Progress) (f : VcdFault) (text more : List ℕ) (taken 
     → Stands p (text ++ more) taken × ((read_so_far (text ++ more)).state ≡ Err f)
 stands-faulty p f text more taken e h =
     let fault : (read_so_far text).state ≡ Err f = sym (ap (λ (r : Read). r.state) h.read) ∙ e in
-    let same : read_so_far (text ++ more) ≡ read_so_far text = faulty_front text more f fault in
-    (record {
-      alive = h.alive;
-      read = h.read ∙ sym same;
-      run = λ ok. absurd (not_ok p.read.state f e ok);
-    }, ap (λ (r : Read). r.state) same ∙ fault)
+    let same : read_so_far (text ++ more) ≡ read_so_far text = faulty_front text more f fault in (
+      record {
+        alive = h.alive;
+        read = h.read ∙ sym same;
+        run = λ ok. absurd (not_ok p.read.state f e ok);
+      },
+      ap (λ (r : Read). r.state) same ∙ fault,
+    )
 
 pub closed-faulty : (p : Progress) (f : VcdFault) (text : List ℕ) (taken : List Item) → p.read.state ≡ Err f → Stands p text taken
     → (reading_of text ≡ Err f) × (taken ++ p.read.items ≡ (read_whole text).items)

@@ -1,5 +1,5 @@
 -- Every reading is well formed.
-use Rattle.std.proofs.Common.{◌≡◌, ◌≤◌, ◌<◌, ◌-◌, ℕ, Bool, true, false, cond, nat_lt, List, [], ◌∷◌, ◌++◌, length, get_or, refl, sym, ap, ◌∙◌, subst, arith, Option, None, Some, Result, Ok, Err, le_trans, le_refl}
+use Rattle.std.proofs.Common.{◌≡◌, ◌≤◌, ◌-◌, ℕ, false, nat_lt, List, [], ◌∷◌, ◌++◌, length, get_or, refl, sym, ap, ◌∙◌, subst, arith, Option, None, Some, Result, Ok, Err, le_trans, le_refl}
 use Rattle.std.specs.Prelude.{All}
 use Rattle.std.specs.Option.{option_to_list}
 use Rattle.std.specs.List.{fold}
@@ -15,10 +15,10 @@ use Rattle.vcd_text.specs.declared.state.Part.TheVariants.{Nothing}
 use Rattle.vcd_text.specs.declared.state.State.{State}
 use Rattle.vcd_text.specs.Tokens.{Token, complete, ended}
 use Rattle.vcd_text.specs.Grammar.{Step, with_part, step}
-use Rattle.vcd_text.specs.Reading.{Read, Reading, moved, go, go_from, from, start, declared_by, read_so_far, read_whole, reading_of, reading_by, ends, fault_at_end}
+use Rattle.vcd_text.specs.Reading.{Read, Reading, moved, go, go_from, from, start, read_so_far, read_whole, reading_of, reading_by, ends, fault_at_end}
 use Rattle.vcd_text.specs.Sizes.{times_of, IsWellFormed}
 use Rattle.vcd_text.specs.Sound.{IsSoundRead}
-use Rattle.vcd_text.proofs.Sound.{Goes, GoesOn, Ascends, step-goes}
+use Rattle.vcd_text.proofs.Sound.{GoesOn, Ascends, step-goes}
 use Rattle.vcd_text.proofs.SoundReading.{onward-fold, from-start-sound, sound-so_far}
 use Rattle.vcd_text.proofs.Standing.{declared-at_end}
 
@@ -41,9 +41,10 @@ not_below : (t u : ℕ) → u ≤ t → nat_lt t u ≡ false
 not_below t u h = grind (arith, nat_tests)
 
 pushed : (ts : List ℕ) (last t : ℕ) → IsSortedBy nat_lt ts → All (λ u. u ≤ last) ts → last ≤ t → IsSortedBy nat_lt (ts ++ t ∷ []) × All (λ u. u ≤ t) (ts ++ t ∷ [])
-pushed ts last t s a h =
-    (IsSortedBy-push nat_lt ts t s (λ d some. not_below t (get_or ts (length ts - 1) d) (le_trans (a (length ts - 1) d (omega arith)) h)),
-    All-push (λ u. u ≤ t) ts t (λ k d lt. le_trans (a k d lt) h) (omega arith))
+pushed ts last t s a h = (
+  IsSortedBy-push nat_lt ts t s (λ d some. not_below t (get_or ts (length ts - 1) d) (le_trans (a (length ts - 1) d (omega arith)) h)),
+  All-push (λ u. u ≤ t) ts t (λ k d lt. le_trans (a k d lt) h) (omega arith),
+)
 
 abbrev Both : ℕ → List Item → Type 0
 Both last items = IsSortedBy nat_lt (times_of items) × All (λ t. t ≤ last) (times_of items)

@@ -1,12 +1,12 @@
 -- For which text a reader stands, and what it answers.
-use Rattle.std.specs.Prelude.{◌≡◌, ◌+◌, ℕ, Bool, true, false, cond, List, [], ◌∷◌, ◌++◌, length, drop, Option, Some, None, Result, Ok, Err, IsOk}
+use Rattle.std.specs.Prelude.{◌≡◌, ℕ, Bool, true, false, cond, List, [], ◌++◌, length, drop, Some, Result, Ok, Err, IsOk}
 use Rattle.vcd_text.specs.declared.declaration.Variable.{Variable}
 use Rattle.vcd_text.specs.declared.fault.FeedFail.{FeedFail}
 use Rattle.vcd_text.specs.declared.fault.FeedFail.TheVariants.{Vcd, NoMemory}
 use Rattle.vcd_text.specs.declared.fault.VcdFault.{VcdFault}
 use Rattle.vcd_text.specs.declared.item.Item.{Item}
 use Rattle.vcd_text.specs.Tokens.{rest}
-use Rattle.vcd_text.specs.Reading.{Read, Reading, read_so_far, read_whole, reading_of}
+use Rattle.vcd_text.specs.Reading.{Read, read_so_far, read_whole, reading_of}
 
 -- what a reader holds
 pub record Progress : Type 0 where

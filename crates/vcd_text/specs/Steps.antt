@@ -1,5 +1,5 @@
 -- What the code's step answers.
-use Rattle.std.specs.Prelude.{⊤, ◌≡◌, ◌≤◌, ◌+◌, length, Option, Some, None, Result, Ok, Err}
+use Rattle.std.specs.Prelude.{⊤, ◌≡◌, ◌≤◌, ◌+◌, length, Option, Result, Ok, Err}
 use Rattle.vcd_text.specs.declared.item.Item.{Item}
 use Rattle.vcd_text.specs.declared.state.State.{State}
 use Rattle.vcd_text.specs.declared.stop.Stop.{Stop}

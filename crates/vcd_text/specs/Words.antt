@@ -1,5 +1,5 @@
 -- What single tokens are.
-use Rattle.std.specs.Prelude.{ℕ, ◌+◌, ◌-◌, ◌*◌, ◌^◌, ◌==◌, ◌&&◌, ◌||◌, Bool, false, cond, nat_le, nat_lt, List, [], ◌∷◌, length, Option, Some, None, codes}
+use Rattle.std.specs.Prelude.{ℕ, ◌+◌, ◌-◌, ◌*◌, ◌^◌, ◌==◌, ◌&&◌, ◌||◌, Bool, false, not, cond, nat_le, nat_lt, List, [], ◌∷◌, length, Option, Some, None, codes}
 use Rattle.std.specs.List.{list_all}
 use Rattle.std.specs.Str.{bytes_eq}
 use Rattle.vcd_text.specs.declared.digit.Digit.{Digit}
@@ -10,6 +10,9 @@ use Rattle.vcd_text.specs.declared.keyword.Keyword.TheVariants.{Scope, Upscope, 
 -- space, tab, line feed, vertical tab, form feed, carriage return
 abbrev pub is_white : ℕ → Bool
 is_white b = (b == 32) || (nat_le 9 b && nat_le b 13)
+
+abbrev pub is_ink : ℕ → Bool
+is_ink b = not (is_white b)
 
 -- the number that decimal digits write behind a number, where it is below 2^64
 abbrev pub number_after : ℕ → List ℕ → Option ℕ

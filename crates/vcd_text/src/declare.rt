@@ -15,11 +15,17 @@ use std::alloc::Global;
 use xif_base::{Name, NoMemory};
 
 const MAX_SIZE: u64 = 1_048_576;
+
 const MAX_SCOPES: usize = 64;
 
 impl State {
     /// Takes the first token of a block, or what isn't one.
-    pub fn declaration(&mut self, alloc: Global, at: u64, token: &[u8]) -> Result<Option<Item>, Stop>
+    pub fn declaration(
+        &mut self,
+        alloc: Global,
+        at: u64,
+        token: &[u8],
+    ) -> Result<Option<Item>, Stop>
         ensures { Gives self.old self.new result (declaration self.old (record { at = at; text = token.now })) }
     {
         if !is_command(token) {
@@ -40,7 +46,13 @@ impl State {
     }
 
     /// Takes a block whose end came.
-    pub fn block(&mut self, alloc: Global, at: u64, keyword: Keyword, words: &[Word]) -> Result<Option<Item>, Stop>
+    pub fn block(
+        &mut self,
+        alloc: Global,
+        at: u64,
+        keyword: Keyword,
+        words: &[Word],
+    ) -> Result<Option<Item>, Stop>
         requires room { length self.old.codes < 2 ^ 32 }
         ensures { Gives self.old self.new result (block self.old at keyword words.now) }
     {
@@ -95,7 +107,14 @@ impl State {
         self.var_sized(alloc, at, code.as_slice(), name.as_slice(), size)
     }
 
-    fn var_sized(&mut self, alloc: Global, at: u64, code: &[u8], name: &[u8], size: u64) -> Result<Option<Item>, Stop>
+    fn var_sized(
+        &mut self,
+        alloc: Global,
+        at: u64,
+        code: &[u8],
+        name: &[u8],
+        size: u64,
+    ) -> Result<Option<Item>, Stop>
         requires room { length self.old.codes < 2 ^ 32 }
         ensures { Gives self.old self.new result (var_sized self.old at code.now name.now (Some size)) }
     {
@@ -108,7 +127,14 @@ impl State {
         }
     }
 
-    fn var_at(&mut self, alloc: Global, at: u64, code: &[u8], size: u32, name: &str) -> Result<Option<Item>, Stop>
+    fn var_at(
+        &mut self,
+        alloc: Global,
+        at: u64,
+        code: &[u8],
+        size: u32,
+        name: &str,
+    ) -> Result<Option<Item>, Stop>
         requires room { length self.old.codes < 2 ^ 32 }
         ensures { Gives self.old self.new result (var_at self.old at code.now size name.now (code_from 0 code.now self.old.codes)) }
     {
@@ -117,14 +143,22 @@ impl State {
             None => {
                 let number = self.codes.next();
                 self.codes.push(alloc, code, size)?;
-                self.variables.push(Variable { name, code: number, size })?;
+                self.variables.push(Variable {
+                    name,
+                    code: number,
+                    size,
+                })?;
                 Ok(None)
             }
             Some((number, known)) => {
                 if known != size {
                     return Stop::fault(VcdCause::SizeDiffers, at);
                 }
-                self.variables.push(Variable { name, code: number, size })?;
+                self.variables.push(Variable {
+                    name,
+                    code: number,
+                    size,
+                })?;
                 Ok(None)
             }
         }

@@ -1,5 +1,5 @@
 // The digits of a value, and a value as a list of them.
-ghost use Rattle.std.specs.Prelude.{◌≡◌, ◌<◌, ◌++◌, [], ◌∷◌, Some, length, slice_get, OnOk, OnErr};
+ghost use Rattle.std.specs.Prelude.{◌≡◌, ◌<◌, ◌++◌, [], ◌∷◌, Some, length, slice_get, IfOk, OnOk, OnErr};
 
 use smallvec::SmallVec;
 use std::alloc::Global;
@@ -41,6 +41,15 @@ impl Digits {
         Digits {
             items: SmallVec::new(alloc),
         }
+    }
+
+    /// No digits, with room for a number of them.
+    pub fn with_capacity(alloc: Global, count: usize) -> Result<Digits, NoMemory>
+        ensures { IfOk result (λ digits. digits ≡ []) }
+    {
+        Ok(Digits {
+            items: Vec::with_capacity(alloc, count)?,
+        })
     }
 
     /// Adds a digit at the right.

@@ -1,11 +1,18 @@
 //! Waveforms as text: value change dumps with four values (IEEE 1364-2005, clause 18).
 //!
-//! A reader gives the items of a text, its times and its changes of values, in order, and the variables
-//! that it declares; a writer gives the text of a list of buses.
+//! A reader takes a text in pieces and gives its items, its times and its changes of values, in order, and
+//! the variables that it declares; a writer gives the text of a list of buses.
 //!
-//! Of the writer the definitions are `specs/Written` (the text of a list of buses, and what it says) and
-//! `specs/Writing` (for which buses a writer stands). That this text has a reading, which says just that,
-//! is the law of `written_texts_read_back`.
+//! The layers above may use `Reader`. What it gives is what the text says, however it is cut, and its fault
+//! is the text's. They may cite `fault_law` (the fault of a front is the text's) and `reading_law` (every
+//! reading is well formed). They may use `Writer`, whose pieces joined are the text of the buses, and cite
+//! `written_texts_read_back` (this text has a reading, and which).
+//!
+//! The definitions stand in `specs/`: `Words` (what single tokens are), `Tokens` (the tokens of a text),
+//! `Codes` (identifier codes), `Grammar` (what a token says, or its fault), `Reading` (what a text says),
+//! `Sizes` (what every reading keeps), `Reader` (for which text a reader stands), `Written` (the text
+//! of a list of buses, and what it says), `Writing` (for which buses a writer stands). `Scanner`, `Steps` and
+//! `Sound` are of the proof alone.
 #![tactic(auto)]
 
 mod codes;
@@ -24,11 +31,11 @@ mod scopes;
 mod state;
 mod step;
 mod stop;
+#[cfg(test)]
+mod tests;
 mod token;
 mod word;
 mod writer;
-#[cfg(test)]
-mod tests;
 #[cfg(test)]
 mod writer_tests;
 

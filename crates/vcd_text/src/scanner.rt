@@ -1,9 +1,10 @@
 // From bytes to tokens, and what they say.
-ghost use Rattle.std.specs.Prelude.{◌≡◌, ◌<◌, ◌≤◌, ◌^◌, ◌+◌, ◌++◌, [], ◌∷◌, ℕ, List, None, length, OnOk};
-ghost use Rattle.std.specs.List.{fold};
+ghost use Rattle.std.specs.Prelude.{◌≡◌, ◌<◌, ◌≤◌, ◌^◌, ◌+◌, ◌++◌, [], ◌∷◌, ℕ, List, true, take, None, length, OnOk};
+ghost use Rattle.std.specs.List.{fold, list_all};
+ghost use Rattle.vcd_text.specs.Words.{is_ink};
 ghost use Rattle.vcd_text.specs.declared.item.Item.{Item};
 ghost use Rattle.vcd_text.specs.Reading.{go, fault_at_end};
-ghost use Rattle.vcd_text.specs.Scanner.{Follows, Steps, HasRoom, read_by, outcome};
+ghost use Rattle.vcd_text.specs.Scanner.{Follows, Steps, TakesToken, HasRoom, read_by, outcome};
 ghost use Rattle.vcd_text.specs.Sound.{IsSoundRead, Onward};
 ghost use Rattle.vcd_text.specs.Tokens.{token_before};
 
@@ -15,6 +16,7 @@ use crate::token::is_white;
 use crate::{Declarations, Item, VcdCause, VcdFault};
 use std::alloc::Global;
 use std::collections::VecDeque;
+use std::mem;
 use xif_base::NoMemory;
 
 /// Takes a text in, byte by byte, up to its first fault.
@@ -65,9 +67,79 @@ impl Scanner {
             Follows self.old text taken → Follows self.new (text ++ piece.now) taken) }
         ensures onward { OnOk result (Onward (read_by self.old []) (read_by self.new [])) }
     {
-        for byte in piece {
-            self.byte(*byte)?;
+        let mut rest = piece;
+        while !rest.is_empty() {
+            let (word, more) = rest.split_at(word_len(rest));
+            match more.split_first() {
+                Some((next, tail)) => {
+                    self.word_and(word, *next)?;
+                    rest = tail;
+                }
+                None => {
+                    self.word(word)?;
+                    return Ok(());
+                }
+            }
         }
+        Ok(())
+    }
+
+    /// Takes bytes that aren't white space, and the one behind them.
+    fn word_and(&mut self, word: &[u8], next: u8) -> Result<(), NoMemory>
+        requires room { self.old.size + length word.now + 1 < 2 ^ 32 }
+        requires codes { HasRoom self.old }
+        requires ink { list_all is_ink word.now ≡ true }
+        ensures size { self.new.size ≤ self.old.size + length word.now + 1 }
+        ensures codes { OnOk result (HasRoom self.new) }
+        ensures follows { OnOk result ((text : List ℕ) (taken : List Item) →
+            Follows self.old text taken → Follows self.new (text ++ word.now ++ next ∷ []) taken) }
+        ensures onward { OnOk result (Onward (read_by self.old []) (read_by self.new [])) }
+    {
+        match self.fault {
+            Some(_) => return Ok(()),
+            None => {}
+        }
+        if self.run.is_empty() && is_white(next) {
+            self.whole_token(word)?;
+            return Ok(());
+        }
+        self.word(word)?;
+        self.byte(next)?;
+        Ok(())
+    }
+
+    /// Takes bytes that aren't white space. Behind a fault nothing is looked at.
+    fn word(&mut self, word: &[u8]) -> Result<(), NoMemory>
+        requires room { self.old.size + length word.now < 2 ^ 32 }
+        requires codes { HasRoom self.old }
+        requires ink { list_all is_ink word.now ≡ true }
+        ensures size { self.new.size ≤ self.old.size + length word.now }
+        ensures codes { OnOk result (HasRoom self.new) }
+        ensures follows { OnOk result ((text : List ℕ) (taken : List Item) →
+            Follows self.old text taken → Follows self.new (text ++ word.now) taken) }
+        ensures onward { OnOk result (Onward (read_by self.old []) (read_by self.new [])) }
+    {
+        match self.fault {
+            Some(_) => return Ok(()),
+            None => {}
+        }
+        self.run.extend_from_slice(word)?;
+        self.size += word.len() as u64;
+        Ok(())
+    }
+
+    /// Takes a whole token, and the white space behind it, where none is open.
+    fn whole_token(&mut self, token: &[u8]) -> Result<(), NoMemory>
+        requires sound { self.old.fault ≡ None }
+        requires run { self.old.run.items ≡ [] }
+        requires room { self.old.size + length token.now + 1 < 2 ^ 32 }
+        requires codes { HasRoom self.old }
+        ensures size { self.new.size ≤ self.old.size + length token.now + 1 }
+        ensures codes { OnOk result (HasRoom self.new) }
+        ensures steps { OnOk result (TakesToken self.old self.new token.now) }
+    {
+        self.token(self.size + token.len() as u64, token)?;
+        self.size += token.len() as u64 + 1;
         Ok(())
     }
 
@@ -119,27 +191,29 @@ impl Scanner {
             read_by self.new taken ≡ fold go (read_by self.old taken) (token_before self.old.size self.old.run.items)) }
         ensures onward { OnOk result (Onward (read_by self.old []) (read_by self.new [])) }
     {
-        self.read_token()?;
-        self.run.clear();
+        let mut run = mem::replace(&mut self.run, Vec::new(self.alloc));
+        self.token(self.size, &run)?;
+        // The next token that is cut in two gets this one's memory.
+        run.clear();
+        self.run = run;
         Ok(())
     }
 
-    /// Reads the token that is open, if there is one.
-    fn read_token(&mut self) -> Result<(), NoMemory>
+    /// Reads a token that ends before an offset, if it has a byte.
+    fn token(&mut self, end: u64, token: &[u8]) -> Result<(), NoMemory>
         requires sound { self.old.fault ≡ None }
-        requires room { self.old.size < 2 ^ 32 }
-        requires codes { HasRoom self.old }
+        requires codes { length self.old.state.codes < 2 ^ 32 }
         ensures size { self.new.size ≡ self.old.size }
-        ensures run { self.new.run.items ≡ self.old.run.items }
-        ensures codes { OnOk result (length self.new.state.codes ≤ length self.old.state.codes + length self.old.run.items) }
+        ensures run { self.new.run ≡ self.old.run }
+        ensures codes { OnOk result (length self.new.state.codes ≤ length self.old.state.codes + length token.now) }
         ensures read { OnOk result ((taken : List Item) →
-            read_by self.new taken ≡ fold go (read_by self.old taken) (token_before self.old.size self.old.run.items)) }
+            read_by self.new taken ≡ fold go (read_by self.old taken) (token_before end token.now)) }
     {
-        if self.run.is_empty() {
+        if token.is_empty() {
             return Ok(());
         }
-        let at = self.size.saturating_sub(self.run.len() as u64);
-        match self.state.step(self.alloc, at, self.run.as_slice()) {
+        let at = end.saturating_sub(token.len() as u64);
+        match self.state.step(self.alloc, at, token) {
             Ok(None) => Ok(()),
             Ok(Some(item)) => {
                 self.items.push_back(item)?;
@@ -162,12 +236,31 @@ impl Scanner {
                 if self.state.is_declared {
                     return None;
                 }
-                Some(VcdFault { at: self.size, cause: VcdCause::NoDefinitionsEnd })
+                Some(VcdFault {
+                    at: self.size,
+                    cause: VcdCause::NoDefinitionsEnd,
+                })
             }
             Part::Block { at, .. }
             | Part::Skipped { at }
             | Part::Vector { at, .. }
-            | Part::Passed { at } => Some(VcdFault { at: *at, cause: VcdCause::OpenBlock }),
+            | Part::Passed { at } => Some(VcdFault {
+                at: *at,
+                cause: VcdCause::OpenBlock,
+            }),
         }
     }
+}
+
+/// How many bytes come before white space.
+fn word_len(bytes: &[u8]) -> usize
+    ensures within { result ≤ length bytes.now }
+    ensures ink { list_all is_ink (take result bytes.now) ≡ true }
+{
+    for (i, byte) in bytes.iter().enumerate() {
+        if is_white(*byte) {
+            return i;
+        }
+    }
+    bytes.len()
 }

@@ -31,14 +31,22 @@ impl State {
                     self.declaration(alloc, at, token)
                 }
             }
-            Part::Block { at: opened_at, keyword, mut words } => {
+            Part::Block {
+                at: opened_at,
+                keyword,
+                mut words,
+            } => {
                 if is_end(token) {
                     return self.block(alloc, opened_at, keyword, words.as_slice());
                 }
                 if words.len() < KEPT_WORDS {
                     words.push(Word::copy(alloc, token)?)?;
                 }
-                self.part = Part::Block { at: opened_at, keyword, words };
+                self.part = Part::Block {
+                    at: opened_at,
+                    keyword,
+                    words,
+                };
                 Ok(None)
             }
             Part::Skipped { at: opened_at } => {
@@ -47,7 +55,10 @@ impl State {
                 }
                 Ok(None)
             }
-            Part::Vector { at: opened_at, digits } => self.change(opened_at, digits, at, token),
+            Part::Vector {
+                at: opened_at,
+                digits,
+            } => self.change(opened_at, digits, at, token),
             Part::Passed { .. } => Ok(None),
         }
     }
@@ -125,7 +136,13 @@ impl State {
     }
 
     /// Gives a change of a code. The code is tested before the width.
-    fn change(&self, at: u64, digits: Digits, code_at: u64, code: &[u8]) -> Result<Option<Item>, Stop>
+    fn change(
+        &self,
+        at: u64,
+        digits: Digits,
+        code_at: u64,
+        code: &[u8],
+    ) -> Result<Option<Item>, Stop>
         ensures { Gives self.now self.now result (change self.now at digits code_at code.now) }
     {
         let Some((code, size)) = self.codes.find(code) else {

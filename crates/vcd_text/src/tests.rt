@@ -12,10 +12,19 @@ type Outcome = Option<(u64, VcdCause)>;
 
 const DECLARATIONS: [(&str, Outcome); 16] = [
     ("", Some((0, VcdCause::NoDefinitionsEnd))),
-    ("$var wire 1 ! c $end\n", Some((21, VcdCause::NoDefinitionsEnd))),
+    (
+        "$var wire 1 ! c $end\n",
+        Some((21, VcdCause::NoDefinitionsEnd)),
+    ),
     ("$end\n", Some((0, VcdCause::BadToken))),
-    ("$var wire 1 ! c $end\n$var wire 2 ! d $end\n", Some((21, VcdCause::SizeDiffers))),
-    ("$var wire 1 ! c $end\n$var wire 2 ! d $end\n$enddefinitions $end\n", Some((21, VcdCause::SizeDiffers))),
+    (
+        "$var wire 1 ! c $end\n$var wire 2 ! d $end\n",
+        Some((21, VcdCause::SizeDiffers)),
+    ),
+    (
+        "$var wire 1 ! c $end\n$var wire 2 ! d $end\n$enddefinitions $end\n",
+        Some((21, VcdCause::SizeDiffers)),
+    ),
     ("$var wire 99999999 ! c $end\n", Some((0, VcdCause::BadVar))),
     ("$dumpvars", Some((0, VcdCause::OpenBlock))),
     ("$enddefinitions", Some((0, VcdCause::OpenBlock))),
@@ -25,8 +34,14 @@ const DECLARATIONS: [(&str, Outcome); 16] = [
     ("$var wire 1 ! $end", Some((0, VcdCause::BadVar))),
     ("$var wire ! c $end", Some((0, VcdCause::BadVar))),
     ("$var wire 1048576 ! c $end $enddefinitions $end\n", None),
-    ("$var wire 0001048577 ! c $end $enddefinitions $end\n", Some((0, VcdCause::BadVar))),
-    ("$var wire 0 ! c $end $enddefinitions $end\n0!", Some((42, VcdCause::TooWide))),
+    (
+        "$var wire 0001048577 ! c $end $enddefinitions $end\n",
+        Some((0, VcdCause::BadVar)),
+    ),
+    (
+        "$var wire 0 ! c $end $enddefinitions $end\n0!",
+        Some((42, VcdCause::TooWide)),
+    ),
 ];
 
 /// Two lines of declarations, 42 bytes.
@@ -41,7 +56,10 @@ const BODIES: [(&str, Outcome); 22] = [
     ("b01 !\n", Some((42, VcdCause::TooWide))),
     ("$scope module m $end\n", Some((42, VcdCause::BadToken))),
     ("$comment\n", Some((42, VcdCause::OpenBlock))),
-    ("#0\n0!\n#5\n1!\n#10\n0!\n#15\n1!\nb10", Some((68, VcdCause::OpenBlock))),
+    (
+        "#0\n0!\n#5\n1!\n#10\n0!\n#15\n1!\nb10",
+        Some((68, VcdCause::OpenBlock)),
+    ),
     ("b", Some((42, VcdCause::BadToken))),
     ("b2 !", Some((42, VcdCause::BadToken))),
     ("b0 ?", Some((45, VcdCause::UnknownCode))),
@@ -60,10 +78,34 @@ const BODIES: [(&str, Outcome); 22] = [
 
 /// What comes first, what is repeated, how often, and what comes last.
 const LIMITS: [(&str, &str, usize, &str, Outcome); 4] = [
-    ("$var wire 1 ", "!", 64, " c $end $enddefinitions $end\n", None),
-    ("$var wire 1 ", "~", 65, " c $end $enddefinitions $end\n", Some((0, VcdCause::BadVar))),
-    ("", "$scope module m $end ", 64, "$enddefinitions $end\n", None),
-    ("", "$scope module m $end ", 65, "$enddefinitions $end\n", Some((1344, VcdCause::BadToken))),
+    (
+        "$var wire 1 ",
+        "!",
+        64,
+        " c $end $enddefinitions $end\n",
+        None,
+    ),
+    (
+        "$var wire 1 ",
+        "~",
+        65,
+        " c $end $enddefinitions $end\n",
+        Some((0, VcdCause::BadVar)),
+    ),
+    (
+        "",
+        "$scope module m $end ",
+        64,
+        "$enddefinitions $end\n",
+        None,
+    ),
+    (
+        "",
+        "$scope module m $end ",
+        65,
+        "$enddefinitions $end\n",
+        Some((1344, VcdCause::BadToken)),
+    ),
 ];
 
 fn fault(at: u64, cause: VcdCause) -> Result<(), FeedFail> {
@@ -164,16 +206,27 @@ b100 &
 0!
 ";
 
-const NESTED_VARIABLES: &str = "top.clk=0:1 top.rst_n=1:1 top.xif.issue_valid=2:1 top.xif.issue_ready=3:1 top.xif.issue_req=4:36 top.xif.issue_resp=5:4 ";
+const NESTED_VARIABLES: &str =
+    "top.clk=0:1 top.rst_n=1:1 top.xif.issue_valid=2:1 top.xif.issue_ready=3:1 top.xif.issue_req=4:36 top.xif.issue_resp=5:4 ";
 
-const NESTED_ITEMS: &str = "#0 x@0 0@1 x@2 x@3 x@4 x@5 0@0 #5 1@0 1@1 0@2 0@3 #10 0@0 #15 1@0 1@2 1@3 1110000000010110010@4 0@5 #20 0@0 #25 1@0 100@5 #30 0@0 ";
+const NESTED_ITEMS: &str =
+    "#0 x@0 0@1 x@2 x@3 x@4 x@5 0@0 #5 1@0 1@1 0@2 0@3 #10 0@0 #15 1@0 1@2 1@3 1110000000010110010@4 0@5 #20 0@0 #25 1@0 100@5 #30 0@0 ";
 
 /// Writes variables with their codes and sizes.
-fn variables_text(alloc: Global, declarations: Option<&Declarations>) -> Result<String, AllocError> {
+fn variables_text(
+    alloc: Global,
+    declarations: Option<&Declarations>,
+) -> Result<String, AllocError> {
     let mut out = String::new(alloc);
     if let Some(declarations) = declarations {
         for variable in declarations.as_slice() {
-            write!(out, "{}={}:{} ", variable.name.as_str(), variable.code, variable.size)?;
+            write!(
+                out,
+                "{}={}:{} ",
+                variable.name.as_str(),
+                variable.code,
+                variable.size
+            )?;
         }
     }
     Ok(out)
@@ -220,7 +273,13 @@ fn variables_and_items_come_in_order(rt: HostRuntime) -> Result<(), Fail> {
     assert_eq!(rt; items.as_str(), NESTED_ITEMS);
     assert!(rt; reader.take().is_none());
     // A name is text.
-    assert_eq!(rt; read(rt.alloc(), b"$scope module \xff $end", 3), fault(0, VcdCause::BadToken));
-    assert_eq!(rt; read(rt.alloc(), b"$var wire 1 ! \xc3( $end", 3), fault(0, VcdCause::BadVar));
+    assert_eq!(rt;
+        read(rt.alloc(), b"$scope module \xff $end", 3),
+        fault(0, VcdCause::BadToken)
+    );
+    assert_eq!(rt;
+        read(rt.alloc(), b"$var wire 1 ! \xc3( $end", 3),
+        fault(0, VcdCause::BadVar)
+    );
     Ok(())
 }

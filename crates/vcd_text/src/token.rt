@@ -50,7 +50,7 @@ pub fn digit(byte: u8) -> Option<Digit>
 pub fn digits(alloc: Global, bytes: &[u8]) -> Result<Option<Digits>, NoMemory>
     ensures { IfOk result (λ found. found ≡ digits bytes.now) }
 {
-    let mut found = Digits::new(alloc);
+    let mut found = Digits::with_capacity(alloc, bytes.len())?;
     for byte in bytes {
         let Some(next) = digit(*byte) else {
             return Ok(None);

@@ -1,5 +1,5 @@
 -- The bits of a value: those of its own digits, and those that it is extended by.
-use Rattle.std.proofs.Common.{◌≡◌, ◌+◌, ◌-◌, ◌*◌, ◌^◌, ◌<◌, ◌≤◌, ℕ, zero, suc, List, [], ◌∷◌, length, reverse, get_or, refl, sym, ap, ◌∙◌, arith, add-zero, zero-add, add-one, lit<}
+use Rattle.std.proofs.Common.{◌≡◌, ◌+◌, ◌-◌, ◌*◌, ◌^◌, ◌<◌, ◌≤◌, ℕ, zero, suc, List, [], ◌∷◌, length, reverse, get_or, refl, sym, ap, ◌∙◌, arith, add-zero, zero-add, lit<}
 use Rattle.std.proofs.Math.Nat.{pow-succ', mul-sub, mul_assoc, mul_left_comm, mul-one, mul-zero}
 use Rattle.std.proofs.Math.Pow.{pow_mono}
 use Rattle.std.proofs.lemmas.Nat.{pow_pos, pow-add}

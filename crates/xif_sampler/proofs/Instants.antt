@@ -4,11 +4,10 @@ use Rattle.std.specs.Prelude.{nat_lt, filter_map}
 use Rattle.std.specs.Option.{option_to_list}
 use Rattle.std.proofs.lemmas.List.{append-nil, reverse-append, take_more}
 use Rattle.std.proofs.lemmas.List.Elements.{filter_map-append}
-use Rattle.xif_signals.specs.declared.sample.Quad.{Quad}
 use Rattle.vcd_text.specs.declared.item.Item.{Item}
 use Rattle.vcd_text.specs.declared.item.Item.TheVariants.{Time, Change}
 use Rattle.xif_sampler.specs.declared.source.Source.{Source}
-use Rattle.xif_sampler.specs.Samples.{time_of, ended, instants, sample_at, sample_by, samples_by}
+use Rattle.xif_sampler.specs.Samples.{time_of, ended, sample_at, samples_by}
 use Rattle.xif_sampler.specs.Steps.{answer_to}
 
 one : {X Y : Type 0} (f : X → Option Y) (x : X) (o : Option Y) → f x ≡ o → filter_map f (x ∷ []) ≡ option_to_list o

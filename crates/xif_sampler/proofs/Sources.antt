@@ -1,6 +1,6 @@
 -- The sources of all signals, along the table.
 use Rattle.std.proofs.Common.{◌≡◌, ◌+◌, ◌<◌, ℕ, List, [], ◌∷◌, ◌++◌, length, take, drop, set, get_or, Ok, Err, Result, refl, sym, ap, ◌∙◌}
-use Rattle.std.proofs.lemmas.List.{take_more, take_more_set, take-append-drop, append_assoc}
+use Rattle.std.proofs.lemmas.List.{take_more, take_more_set, take-append-drop}
 use Rattle.xif_signals.specs.declared.signal.Signal.{Signal}
 use Rattle.xif_sampler.specs.declared.fault.MapFault.{MapFault}
 use Rattle.xif_sampler.specs.declared.fault.MapFail.{MapFail}

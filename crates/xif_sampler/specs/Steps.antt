@@ -9,7 +9,7 @@ use Rattle.xif_sampler.specs.declared.source.Source.{Source}
 use Rattle.xif_sampler.specs.declared.source.Source.TheVariants.{Fixed, Bits}
 use Rattle.xif_sampler.specs.declared.source.Readers.{Readers}
 use Rattle.xif_sampler.specs.Digits.{quad_from}
-use Rattle.xif_sampler.specs.Samples.{is_number, sample_at, sample_by}
+use Rattle.xif_sampler.specs.Samples.{is_number, sample_by}
 
 abbrev pub source_at : List Source → ℕ → Source
 source_at sources i = slice_index_or sources i (Fixed 0)

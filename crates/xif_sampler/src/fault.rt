@@ -10,7 +10,8 @@ pub enum MapFault {
     Missing(Signal),
     /// Its name is declared under two identifier codes.
     Ambiguous(Signal),
-    /// Its variable doesn't have the bits that the signal takes, or `high` isn't among them or cuts them off.
+    /// Its variable doesn't have all bits that the signal takes, or `high` is no bit of the variable or below
+    /// the last bit that the signal takes.
     Narrow(Signal),
 }
 

@@ -19,10 +19,11 @@ pub enum Place {
         name: Name,
         /// The lowest bit that is taken, counted from the last digit of a value as 0.
         low: u32,
-        /// Where it is given, a bit of the variable, the highest that may be taken.
+        /// Where it is given, the highest bit that may be taken, which is to be a bit of the variable.
         high: Option<u32>,
     },
-    /// Nowhere: it always has this value.
+    /// Nowhere: it always has this value, as it is given, whatever the signal's width is. A signal without
+    /// bits is 0. A constant clock never rises.
     Constant(u64),
 }
 

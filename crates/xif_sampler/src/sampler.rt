@@ -78,7 +78,8 @@ impl Sampler {
         })
     }
 
-    /// Takes a change of the variables of a code.
+    /// Takes a change of the variables of a code. One of a code that no signal takes bits of changes no
+    /// sample.
     pub fn change(&mut self, code: u32, digits: &Digits)
         ensures { (sources : List Source) (h : List Item) → StandsFor self.old sources h →
             StandsFor self.new sources (Change code digits.now ∷ h) }
@@ -110,7 +111,7 @@ impl Sampler {
         sample
     }
 
-    /// Ends the last instant: its sample, where the clock rises in it.
+    /// Ends the last instant: its sample, where the clock rises in it. To be called behind the last item.
     pub fn finish(&mut self) -> Option<Sample>
         ensures sample { (sources : List Source) (h : List Item) → StandsFor self.old sources h →
             result ≡ sample_at sources h }

@@ -1,6 +1,6 @@
 use Rattle.std.proofs.Common.{◌≡◌, ◌+◌, ◌-◌, ◌*◌, ◌^◌, ◌<◌, ◌∙◌, ap, sym, arith, length}
 use Rattle.xif_signals.specs.declared.sample.Quad.{Quad}
-use Rattle.xif_sampler.specs.Digits.{filler, value_of, unknown_of, bits_from, quad_from}
+use Rattle.xif_sampler.specs.Digits.{filler, unknown_of, bits_from}
 use Rattle.xif_sampler.proofs.Bits.{unknown_small, bits_filled, value_filled, fits_64}
 use Rattle.xif_sampler.proofs.digits.quad_of.Goals as goal
 

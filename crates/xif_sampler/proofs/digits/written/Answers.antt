@@ -1,4 +1,4 @@
-use Rattle.std.proofs.Common.{◌≡◌, ◌+◌, ◌-◌, ◌*◌, ◌^◌, ◌<◌, arith, length}
+use Rattle.std.proofs.Common.{◌+◌, ◌-◌, ◌*◌, ◌^◌, ◌<◌, arith, length}
 use Rattle.vcd_text.specs.declared.digit.Digit.TheVariants.{Zero}
 use Rattle.xif_sampler.specs.Digits.{value_of, unknown_of, bits_from}
 use Rattle.xif_sampler.proofs.Bits.{value_small, unknown_small, bits_double, bits_on}

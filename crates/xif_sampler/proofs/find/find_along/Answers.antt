@@ -1,7 +1,7 @@
-use Rattle.std.proofs.Common.{◌≡◌, ◌≤◌, ◌∙◌, refl, arith, length-set}
+use Rattle.std.proofs.Common.{◌≤◌, ◌∙◌, refl, arith, length-set}
 use Rattle.std.proofs.lemmas.Result.{err_from_is_err_and}
 use Rattle.xif_signals.specs.declared.signal.Signal.TheVariants.{Clk}
-use Rattle.xif_sampler.specs.Places.{source_of, sources_along, Gives}
+use Rattle.xif_sampler.specs.Places.{source_of}
 use Rattle.xif_sampler.specs.declared.source.Source.TheVariants.{Fixed}
 use Rattle.xif_sampler.specs.Steps.{bits_taken}
 use Rattle.xif_sampler.proofs.Lists.{each_set, each_replicate}

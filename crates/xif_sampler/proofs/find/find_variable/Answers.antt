@@ -1,7 +1,7 @@
-use Rattle.std.proofs.Common.{◌≡◌, true, ◌+◌, ◌∙◌, ap, sym, arith, take, drop, Ok, bytes_eq}
+use Rattle.std.proofs.Common.{◌≡◌, true, ◌+◌, ◌∙◌, ap, sym, arith, take, drop, bytes_eq}
 use Rattle.std.specs.Option.{option_map}
 use Rattle.xif_sampler.specs.Places.{variable_of, named}
-use Rattle.xif_sampler.proofs.Named.{so_far, named_whole, other_named, this_named, first_meant, same_meant, other_meant}
+use Rattle.xif_sampler.proofs.Named.{so_far, named_whole, other_meant}
 use Rattle.xif_sampler.proofs.find.find_variable.Goals as goal
 
 pub returns-then-first-variable : goal.returns-then-first-variable

@@ -5,7 +5,6 @@ use Rattle.std.proofs.lemmas.List.{take_all}
 use Rattle.vcd_text.specs.declared.item.Item.{Item}
 use Rattle.xif_sampler.specs.Samples.{ended, sample_at}
 use Rattle.xif_sampler.specs.Keeping.{StandsFor}
-use Rattle.xif_sampler.specs.Steps.{answer_to}
 use Rattle.xif_sampler.proofs.Instants.{ended_more, ended_all, reverse_more}
 use Rattle.xif_sampler.proofs.items.sample_all.Goals as goal
 

@@ -1,6 +1,5 @@
 use Rattle.std.proofs.Common.{◌≡◌, ◌-◌, ◌∙◌, refl, ap, arith, length-set, get_or, length}
 use Rattle.xif_signals.specs.declared.signal.Signal.TheVariants.{Clk}
-use Rattle.xif_signals.specs.Signal.{number_of}
 use Rattle.xif_signals.specs.Quad.{known_quad, place_of}
 use Rattle.xif_sampler.proofs.Lists.{take_behind_head}
 use Rattle.xif_sampler.proofs.Table.{number_at, not_clock}

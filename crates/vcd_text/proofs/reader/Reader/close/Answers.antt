@@ -1,4 +1,4 @@
-use Rattle.std.proofs.Common.{None, Some, refl, sym, ap, ◌∙◌, subst, false}
+use Rattle.std.proofs.Common.{None, Some, sym, ap, ◌∙◌, subst}
 use Rattle.vcd_text.specs.Reader.{Progress, Stands}
 use Rattle.vcd_text.specs.Scanner.{outcome}
 use Rattle.vcd_text.proofs.Standing.{follows-from_stands, closed-faulty, whole-is, ends-as, items-as, closes-as, declared-at_end}
@@ -29,6 +29,8 @@ returns-in-None-fault_at_end-clause-closed c = λ text taken h.
     let s = c.self.inside.scanner in
     let new = c.end_token.new.self in
     let f = follows-from_stands s _ _ text taken (subst (λ p. Stands p text taken) (sym c.self.view_is) h) in
-    let whole = whole-is s new text taken c.in-None.is f (c.in-Ok.ensures.read taken) in
-    (new.state.variables, declared-at_end new.state new.size c.in-None-fault_at_end.ensures,
-    closes-as new text taken new.size None c.in-None-fault.is (c.in-Ok.ensures.size ∙ f.size c.in-None.is) c.in-None-fault_at_end.ensures whole)
+    let whole = whole-is s new text taken c.in-None.is f (c.in-Ok.ensures.read taken) in (
+      new.state.variables,
+      declared-at_end new.state new.size c.in-None-fault_at_end.ensures,
+      closes-as new text taken new.size None c.in-None-fault.is (c.in-Ok.ensures.size ∙ f.size c.in-None.is) c.in-None-fault_at_end.ensures whole,
+    )
