@@ -5,8 +5,7 @@
 //! which the clock rises. `sample_items` does so with a whole list of items.
 //!
 //! The definitions stand in `specs/`: `Places` (where the bits of a signal come from, and the first fault
-//! of a map), `Digits` (what bits a value has), `Samples` (the instants of a waveform, and its samples) and
-//! `Keeping` (which history a sampler stands for). `Steps` has the words of the private contracts.
+//! of a map), `Digits` (what bits a value has) and `Samples` (the instants of a waveform, and its samples).
 #![tactic(auto)]
 
 mod digits;
