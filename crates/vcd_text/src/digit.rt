@@ -48,7 +48,7 @@ impl Digits {
         ensures { IfOk result (λ digits. digits ≡ []) }
     {
         Ok(Digits {
-            items: Vec::with_capacity(alloc, count)?,
+            items: SmallVec::with_capacity(alloc, count)?,
         })
     }
 
