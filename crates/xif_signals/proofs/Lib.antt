@@ -1,3 +1,4 @@
 pub mod Bits
+pub mod Fits
 pub mod Lists
 pub mod ReadsBack

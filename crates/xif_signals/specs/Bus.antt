@@ -82,19 +82,14 @@ pub record FitsWidths (p : Params) (b : Bus) : Type 0 where
   pub result_rd : b.result_rd < 2 ^ width_of ResultRd p
   pub result_we : b.result_we < 2 ^ width_of ResultWe p
 
--- what the bits below the widths say, an unknown bit as 0
-abbrev pub bus_of : List Quad → Params → Bus
-bus_of qs p = record {
+-- what the bits below the widths say, an unknown bit as 0: each side, and the bus
+abbrev pub cpu_out_of : List Quad → Params → CpuOut
+cpu_out_of qs p = record {
   issue_valid = is_one qs p IssueValid;
-  issue_ready = is_one qs p IssueReady;
   issue_hartid = value_of qs p IssueHartid;
   issue_id = value_of qs p IssueId;
   issue_instr = value_of qs p IssueInstr;
-  issue_accept = is_one qs p IssueAccept;
-  issue_writeback = value_of qs p IssueWriteback;
-  issue_register_read = value_of qs p IssueRegisterRead;
   register_valid = is_one qs p RegisterValid;
-  register_ready = is_one qs p RegisterReady;
   register_hartid = value_of qs p RegisterHartid;
   register_id = value_of qs p RegisterId;
   register_rs0 = value_of qs p RegisterRs0;
@@ -105,11 +100,25 @@ bus_of qs p = record {
   commit_hartid = value_of qs p CommitHartid;
   commit_id = value_of qs p CommitId;
   commit_kill = is_one qs p CommitKill;
+}
+
+abbrev pub cop_out_of : List Quad → Params → CopOut
+cop_out_of qs p = record {
+  issue_ready = is_one qs p IssueReady;
+  issue_accept = is_one qs p IssueAccept;
+  issue_writeback = value_of qs p IssueWriteback;
+  issue_register_read = value_of qs p IssueRegisterRead;
+  register_ready = is_one qs p RegisterReady;
   result_valid = is_one qs p ResultValid;
-  result_ready = is_one qs p ResultReady;
   result_hartid = value_of qs p ResultHartid;
   result_id = value_of qs p ResultId;
   result_data = value_of qs p ResultData;
   result_rd = value_of qs p ResultRd;
   result_we = value_of qs p ResultWe;
 }
+
+abbrev pub cpu_in_of : List Quad → Params → CpuIn
+cpu_in_of qs p = record { result_ready = is_one qs p ResultReady }
+
+abbrev pub bus_of : List Quad → Params → Bus
+bus_of qs p = join_of (cpu_out_of qs p) (cop_out_of qs p) (cpu_in_of qs p)

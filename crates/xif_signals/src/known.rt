@@ -1,11 +1,13 @@
 // Which bits of a sample have to be known, and the bus that it is where they are.
-ghost use Rattle.std.specs.Prelude.{◌≡◌, ◌≢◌, ◌<◌, IfOk};
+ghost use Rattle.std.specs.Prelude.{◌≡◌, ◌==◌, ◌&&◌, ◌<◌, ◌≤◌, not, [], ◌∷◌, IfOk};
 ghost use Rattle.xif_base.specs.Params.{IsInRange};
-ghost use Rattle.xif_signals.specs.declared.signal.Signal.TheVariants.{Clk};
-ghost use Rattle.xif_signals.specs.Bus.{bus_of, FitsWidths};
+ghost use Rattle.xif_signals.specs.Bus.{cpu_out_of, cop_out_of, bus_of, FitsWidths};
+ghost use Rattle.xif_signals.specs.declared.rule.Channel.TheVariants.{Issue, Register, Commit, Result as ResultChannel};
+ghost use Rattle.xif_signals.specs.Signal.{width_of};
+ghost use Rattle.xif_signals.specs.Quad.{value_of};
 ghost use Rattle.xif_signals.specs.Known as rules;
 
-use crate::bus::Bus;
+use crate::bus::{Bus, CopOut, CpuIn, CpuOut};
 use crate::rule::{Channel, Rule, Unknown};
 use crate::sample::Sample;
 use crate::signal::Signal;
@@ -39,17 +41,12 @@ impl Sample {
         requires { IsInRange params.now }
         ensures { result ≡ rules.first_unknown (rules.rule_K1 self.now params.now) }
     {
-        if !self.is_handshake_known(Signal::IssueValid, Signal::IssueReady, params) {
-            Some(Channel::Issue)
-        } else if !self.is_handshake_known(Signal::RegisterValid, Signal::RegisterReady, params) {
-            Some(Channel::Register)
-        } else if !self.is_known(Signal::CommitValid, params) {
-            Some(Channel::Commit)
-        } else if !self.is_handshake_known(Signal::ResultValid, Signal::ResultReady, params) {
-            Some(Channel::Result)
-        } else {
-            None
-        }
+        first_unknown(
+            self.is_handshake_known(Signal::IssueValid, Signal::IssueReady, params),
+            self.is_handshake_known(Signal::RegisterValid, Signal::RegisterReady, params),
+            self.is_known(Signal::CommitValid, params),
+            self.is_handshake_known(Signal::ResultValid, Signal::ResultReady, params),
+        )
     }
 
     /// The first channel where K2 fails.
@@ -57,23 +54,16 @@ impl Sample {
         requires { IsInRange params.now }
         ensures { result ≡ rules.first_unknown (rules.rule_K2 self.now params.now) }
     {
-        if !self.is_issue_known(params) {
-            Some(Channel::Issue)
-        } else if !self.is_register_known(params) {
-            Some(Channel::Register)
-        } else if !self.is_commit_known(params) {
-            Some(Channel::Commit)
-        } else if !self.is_result_known(params) {
-            Some(Channel::Result)
-        } else {
-            None
-        }
+        first_unknown(
+            self.is_issue_known(params),
+            self.is_register_known(params),
+            self.is_commit_known(params),
+            self.is_result_known(params),
+        )
     }
 
     fn is_handshake_known(&self, valid: Signal, ready: Signal, params: &Params) -> bool
-        requires valid { valid ≢ Clk }
-        requires ready { ready ≢ Clk }
-        requires params { IsInRange params.now }
+        requires { IsInRange params.now }
         ensures { result ≡ rules.is_handshake_known self.now params.now valid ready }
     {
         self.is_known(valid, params)
@@ -88,16 +78,21 @@ impl Sample {
             return true;
         }
         if !(self.is_known(Signal::IssueHartid, params)
-            && self.is_known(Signal::IssueId, params)
-            && self.is_known(Signal::IssueInstr, params))
+            & self.is_known(Signal::IssueId, params)
+            & self.is_known(Signal::IssueInstr, params))
         {
             return false;
         }
-        !self.is_one(Signal::IssueReady, params)
-            || self.is_known(Signal::IssueAccept, params)
-                && self.is_known(Signal::IssueWriteback, params)
-                && (!self.is_one(Signal::IssueAccept, params)
-                    || self.is_known(Signal::IssueRegisterRead, params))
+        if !self.is_one(Signal::IssueReady, params) {
+            return true;
+        }
+        if !(self.is_known(Signal::IssueAccept, params)
+            & self.is_known(Signal::IssueWriteback, params))
+        {
+            return false;
+        }
+        !self.is_one(Signal::IssueAccept, params)
+            || self.is_known(Signal::IssueRegisterRead, params)
     }
 
     fn is_register_known(&self, params: &Params) -> bool
@@ -107,17 +102,19 @@ impl Sample {
         if !self.is_one(Signal::RegisterValid, params) {
             return true;
         }
-        self.is_known(Signal::RegisterHartid, params)
-            && self.is_known(Signal::RegisterId, params)
-            && self.is_known(Signal::RegisterRsValid, params)
-            && self.is_lane_known(0, Signal::RegisterRs0, params)
-            && self.is_lane_known(1, Signal::RegisterRs1, params)
-            && (params.num_rs != 3 || self.is_lane_known(2, Signal::RegisterRs2, params))
+        if !(self.is_known(Signal::RegisterHartid, params)
+            & self.is_known(Signal::RegisterId, params)
+            & self.is_known(Signal::RegisterRsValid, params)
+            & self.is_lane_known(0, Signal::RegisterRs0, params)
+            & self.is_lane_known(1, Signal::RegisterRs1, params))
+        {
+            return false;
+        }
+        params.num_rs != 3 || self.is_lane_known(2, Signal::RegisterRs2, params)
     }
 
     fn is_lane_known(&self, lane: u8, signal: Signal, params: &Params) -> bool
         requires lane { lane < params.now.num_rs }
-        requires signal { signal ≢ Clk }
         requires params { IsInRange params.now }
         ensures { result ≡ rules.is_lane_known self.now params.now lane signal }
     {
@@ -134,10 +131,12 @@ impl Sample {
         requires { IsInRange params.now }
         ensures { result ≡ rules.is_commit_known self.now params.now }
     {
-        !self.is_one(Signal::CommitValid, params)
-            || self.is_known(Signal::CommitHartid, params)
-                && self.is_known(Signal::CommitId, params)
-                && self.is_known(Signal::CommitKill, params)
+        if !self.is_one(Signal::CommitValid, params) {
+            return true;
+        }
+        self.is_known(Signal::CommitHartid, params)
+            & self.is_known(Signal::CommitId, params)
+            & self.is_known(Signal::CommitKill, params)
     }
 
     fn is_result_known(&self, params: &Params) -> bool
@@ -148,26 +147,24 @@ impl Sample {
             return true;
         }
         if !(self.is_known(Signal::ResultHartid, params)
-            && self.is_known(Signal::ResultId, params)
-            && self.is_known(Signal::ResultWe, params))
+            & self.is_known(Signal::ResultId, params)
+            & self.is_known(Signal::ResultWe, params))
         {
             return false;
         }
         let flags = self.value(Signal::ResultWe, params);
-        flags == 0
-            || self.is_known(Signal::ResultRd, params)
-                && self.are_halves_known(
-                    Signal::ResultData,
-                    has_flag(flags, 0),
-                    has_flag(flags, 1),
-                    params,
-                )
+        let even = has_flag(flags, 0);
+        let odd = has_flag(flags, 1);
+        is_written_known(
+            flags,
+            self.is_known(Signal::ResultRd, params),
+            self.are_halves_known(Signal::ResultData, even, odd, params),
+        )
     }
 
     /// Whether the halves of a signal are known whose flag is set.
     fn are_halves_known(&self, signal: Signal, even: bool, odd: bool, params: &Params) -> bool
-        requires signal { signal ≢ Clk }
-        requires params { IsInRange params.now }
+        requires { IsInRange params.now }
         ensures { result ≡ rules.are_halves_known self.now params.now signal even odd }
     {
         let unknown = self.unknown(signal, params);
@@ -177,39 +174,97 @@ impl Sample {
     /// What the bits below the widths say, an unknown bit as 0.
     fn bus(&self, params: &Params) -> Bus
         requires { IsInRange params.now }
-        ensures bus { result ≡ bus_of self.now params.now }
-        ensures fits { FitsWidths params.now result }
+        ensures { result ≡ bus_of self.now params.now }
     {
-        Bus {
+        let input = CpuIn {
+            result_ready: self.is_one(Signal::ResultReady, params),
+        };
+        Bus::join(&self.cpu_out(params), &self.cop_out(params), &input)
+    }
+
+    fn cpu_out(&self, params: &Params) -> CpuOut
+        requires { IsInRange params.now }
+        ensures { result ≡ cpu_out_of self.now params.now }
+    {
+        CpuOut {
             issue_valid: self.is_one(Signal::IssueValid, params),
-            issue_ready: self.is_one(Signal::IssueReady, params),
-            issue_hartid: self.value(Signal::IssueHartid, params) as u8,
-            issue_id: self.value(Signal::IssueId, params) as u16,
+            issue_hartid: self.byte(Signal::IssueHartid, params),
+            issue_id: self.id(Signal::IssueId, params),
             issue_instr: self.value(Signal::IssueInstr, params) as u32,
-            issue_accept: self.is_one(Signal::IssueAccept, params),
-            issue_writeback: self.value(Signal::IssueWriteback, params) as u8,
-            issue_register_read: self.value(Signal::IssueRegisterRead, params) as u8,
             register_valid: self.is_one(Signal::RegisterValid, params),
-            register_ready: self.is_one(Signal::RegisterReady, params),
-            register_hartid: self.value(Signal::RegisterHartid, params) as u8,
-            register_id: self.value(Signal::RegisterId, params) as u16,
+            register_hartid: self.byte(Signal::RegisterHartid, params),
+            register_id: self.id(Signal::RegisterId, params),
             register_rs0: self.value(Signal::RegisterRs0, params),
             register_rs1: self.value(Signal::RegisterRs1, params),
             register_rs2: self.value(Signal::RegisterRs2, params),
-            register_rs_valid: self.value(Signal::RegisterRsValid, params) as u8,
+            register_rs_valid: self.byte(Signal::RegisterRsValid, params),
             commit_valid: self.is_one(Signal::CommitValid, params),
-            commit_hartid: self.value(Signal::CommitHartid, params) as u8,
-            commit_id: self.value(Signal::CommitId, params) as u16,
+            commit_hartid: self.byte(Signal::CommitHartid, params),
+            commit_id: self.id(Signal::CommitId, params),
             commit_kill: self.is_one(Signal::CommitKill, params),
-            result_valid: self.is_one(Signal::ResultValid, params),
-            result_ready: self.is_one(Signal::ResultReady, params),
-            result_hartid: self.value(Signal::ResultHartid, params) as u8,
-            result_id: self.value(Signal::ResultId, params) as u16,
-            result_data: self.value(Signal::ResultData, params),
-            result_rd: self.value(Signal::ResultRd, params) as u8,
-            result_we: self.value(Signal::ResultWe, params) as u8,
         }
     }
+
+    fn cop_out(&self, params: &Params) -> CopOut
+        requires { IsInRange params.now }
+        ensures { result ≡ cop_out_of self.now params.now }
+    {
+        CopOut {
+            issue_ready: self.is_one(Signal::IssueReady, params),
+            issue_accept: self.is_one(Signal::IssueAccept, params),
+            issue_writeback: self.byte(Signal::IssueWriteback, params),
+            issue_register_read: self.byte(Signal::IssueRegisterRead, params),
+            register_ready: self.is_one(Signal::RegisterReady, params),
+            result_valid: self.is_one(Signal::ResultValid, params),
+            result_hartid: self.byte(Signal::ResultHartid, params),
+            result_id: self.id(Signal::ResultId, params),
+            result_data: self.value(Signal::ResultData, params),
+            result_rd: self.byte(Signal::ResultRd, params),
+            result_we: self.byte(Signal::ResultWe, params),
+        }
+    }
+
+    /// The value of a signal of at most 8 bits.
+    fn byte(&self, signal: Signal, params: &Params) -> u8
+        requires width { width_of signal params.now ≤ 8 }
+        requires params { IsInRange params.now }
+        ensures { result ≡ value_of self.now params.now signal }
+    {
+        self.value(signal, params) as u8
+    }
+
+    /// The value of a signal that is an id.
+    fn id(&self, signal: Signal, params: &Params) -> u16
+        requires width { width_of signal params.now ≤ 16 }
+        requires params { IsInRange params.now }
+        ensures { result ≡ value_of self.now params.now signal }
+    {
+        self.value(signal, params) as u16
+    }
+}
+
+/// The first channel whose test fails.
+fn first_unknown(issue: bool, register: bool, commit: bool, result_channel: bool) -> Option<Channel>
+    ensures { result ≡ rules.first_unknown ((issue, Issue) ∷ (register, Register) ∷ (commit, Commit) ∷ (result_channel, ResultChannel) ∷ []) }
+{
+    if !issue {
+        Some(Channel::Issue)
+    } else if !register {
+        Some(Channel::Register)
+    } else if !commit {
+        Some(Channel::Commit)
+    } else if !result_channel {
+        Some(Channel::Result)
+    } else {
+        None
+    }
+}
+
+/// Whether register and data of a result are known, where a flag says that it is written.
+fn is_written_known(flags: u64, rd: bool, value: bool) -> bool
+    ensures { result ≡ rules.when (not (flags == 0)) (rd && value) }
+{
+    flags == 0 || rd && value
 }
 
 fn has_flag(flags: u64, bit: u8) -> bool

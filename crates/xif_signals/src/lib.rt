@@ -16,8 +16,6 @@ mod known;
 mod rule;
 mod sample;
 mod signal;
-#[cfg(test)]
-mod tests;
 
 pub use bus::{Bus, CopOut, CpuIn, CpuOut};
 pub use rule::{Channel, Rule, Unknown};

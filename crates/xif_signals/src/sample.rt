@@ -21,7 +21,7 @@ pub struct Quad {
 /// The signals of one cycle, but for the clock.
 ///
 /// It is seen as the list of their bits in the order of the table.
-#[derive(Clone, Debug, Drop)]
+#[derive(Clone, Drop)]
 pub struct Sample {
     quads: [Quad; 28],
 }
@@ -61,12 +61,18 @@ impl Sample {
         }
     }
 
+    fn quad(&self, signal: Signal) -> Quad
+        ensures { result ≡ quad_of self.now signal }
+    {
+        self.quads[usize::from(signal.number()).saturating_sub(1)]
+    }
+
     /// The bits of a signal other than the clock.
     pub fn get(&self, signal: Signal) -> Quad
         requires { signal ≢ Clk }
         ensures { result ≡ quad_of self.now signal }
     {
-        self.quads[usize::from(signal.number()) - 1]
+        self.quad(signal)
     }
 
     /// Gives a signal other than the clock these bits.
@@ -91,18 +97,16 @@ impl Sample {
 
     /// The bits below the signal's width, an unknown bit as 0.
     pub(crate) fn value(&self, signal: Signal, params: &Params) -> u64
-        requires signal { signal ≢ Clk }
-        requires params { IsInRange params.now }
+        requires { IsInRange params.now }
         ensures value { result ≡ value_of self.now params.now signal }
         ensures below { result < 2 ^ width_of signal params.now }
     {
-        low_bits(self.get(signal).reading(), signal.width(params))
+        low_bits(self.quad(signal).reading(), signal.width(params))
     }
 
     /// Whether a signal of one bit is 1.
     pub(crate) fn is_one(&self, signal: Signal, params: &Params) -> bool
-        requires signal { signal ≢ Clk }
-        requires params { IsInRange params.now }
+        requires { IsInRange params.now }
         ensures { result ≡ is_one self.now params.now signal }
     {
         self.value(signal, params) == 1
@@ -110,16 +114,14 @@ impl Sample {
 
     /// The unknown bits below the signal's width.
     pub(crate) fn unknown(&self, signal: Signal, params: &Params) -> u64
-        requires signal { signal ≢ Clk }
-        requires params { IsInRange params.now }
+        requires { IsInRange params.now }
         ensures { result ≡ unknown_of self.now params.now signal }
     {
-        low_bits(self.get(signal).unknown, signal.width(params))
+        low_bits(self.quad(signal).unknown, signal.width(params))
     }
 
     pub(crate) fn is_known(&self, signal: Signal, params: &Params) -> bool
-        requires signal { signal ≢ Clk }
-        requires params { IsInRange params.now }
+        requires { IsInRange params.now }
         ensures { result ≡ is_known self.now params.now signal }
     {
         self.unknown(signal, params) == 0

@@ -3,10 +3,11 @@ ghost use Rattle.std.specs.Prelude.{◌≡◌, [], ◌∷◌};
 ghost use Rattle.xif_base.specs.Params.{IsInRange};
 ghost use Rattle.xif_signals.specs.Signal.{signals, number_of, code_of, name_of, width_of};
 
+use std::fmt;
 use xif_base::Params;
 
 /// A signal of the interface, or its clock or reset, in the order of the table.
-#[derive(Clone, Copy, Debug, PartialEq, Eq)]
+#[derive(Clone, Copy, PartialEq, Eq)]
 pub enum Signal {
     Clk,
     RstN,
@@ -153,5 +154,11 @@ impl Signal {
             Signal::ResultRd => 5,
             _ => 1,
         }
+    }
+}
+
+impl fmt::Debug for Signal {
+    fn fmt<W: fmt::Write>(&self, f: &mut fmt::Formatter<W>) -> fmt::Result {
+        f.write_str(self.name())
     }
 }

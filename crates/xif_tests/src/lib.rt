@@ -1,0 +1,6 @@
+//! Tests of the crates below, by what they make public: a module for each crate. They stand apart from the
+//! crates so that each crate is proved once, since one with tests of its own is proved with them and without.
+#![tactic(auto)]
+
+#[cfg(test)]
+mod signals;
