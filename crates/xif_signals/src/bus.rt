@@ -8,7 +8,7 @@ ghost use Rattle.xif_signals.specs.Known.{known_of};
 use crate::sample::Sample;
 
 /// What the core drives, but for `result_ready`.
-#[derive(Clone, Copy)]
+#[derive(Clone, Copy, Debug, PartialEq, Eq)]
 pub struct CpuOut {
     pub issue_valid: bool,
     pub issue_hartid: u8,
@@ -28,7 +28,7 @@ pub struct CpuOut {
 }
 
 /// What the coprocessor drives.
-#[derive(Clone, Copy)]
+#[derive(Clone, Copy, Debug, PartialEq, Eq)]
 pub struct CopOut {
     pub issue_ready: bool,
     pub issue_accept: bool,
@@ -44,7 +44,7 @@ pub struct CopOut {
 }
 
 /// What the core drives once it has seen what the coprocessor drives.
-#[derive(Clone, Copy)]
+#[derive(Clone, Copy, Debug, PartialEq, Eq)]
 pub struct CpuIn {
     pub result_ready: bool,
 }

@@ -21,7 +21,7 @@ pub struct Quad {
 /// The signals of one cycle, but for the clock.
 ///
 /// It is seen as the list of their bits in the order of the table.
-#[derive(Clone, Drop)]
+#[derive(Clone, Debug, Drop)]
 pub struct Sample {
     quads: [Quad; 28],
 }
