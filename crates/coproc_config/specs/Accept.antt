@@ -1,8 +1,8 @@
 -- Which entry takes a word, and what it reads and writes.
-use Rattle.std.specs.Prelude.{◌≡◌, ◌==◌, ◌&&◌, ◌+◌, ◌^◌, ◌%◌, ℕ, zero, suc, Bool, true, List, [], ◌∷◌, Option, Some, None, find, sum_by, nat_lt, bit_and, slice_get}
+use Rattle.std.specs.Prelude.{◌≡◌, ◌==◌, ◌&&◌, ◌+◌, ◌^◌, ◌%◌, ℕ, Bool, true, List, [], ◌∷◌, Option, Some, None, find, sum_by, nat_lt, bit_and, slice_get}
 use Rattle.std.specs.List.{list_all}
 use Rattle.std.specs.Option.{option_map}
-use Rattle.rv32_table.specs.Word.{bits}
+use Rattle.rv32_table.specs.Instr.{rd_field, source_field}
 use Rattle.xif_base.specs.declared.params.Params.{Params}
 use Rattle.xif_base.specs.Flags.{even_bit, odd_bit}
 use Rattle.coproc_config.specs.declared.operation.Entry.{Entry}
@@ -13,15 +13,6 @@ use Rattle.coproc_config.specs.declared.operation.Writes.TheVariants as writes
 use Rattle.coproc_config.specs.declared.accept.Hit.{Hit}
 use Rattle.coproc_config.specs.Table.{line, write_flags}
 use Rattle.coproc_config.specs.Set.{UnitTable, Place, places}
-
--- the fields of a word for registers: rd, and the source of each lane
-abbrev pub rd_field : ℕ → ℕ
-rd_field word = bits word 11 7
-
-abbrev pub source_field : ℕ → ℕ → ℕ
-source_field word zero = bits word 19 15
-source_field word (suc zero) = bits word 24 20
-source_field word (suc (suc lane)) = bits word 31 27
 
 -- the lanes of which the low half is read
 abbrev pub lanes_of : Reads → List ℕ

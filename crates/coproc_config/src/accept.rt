@@ -6,10 +6,12 @@ ghost use Rattle.xif_base.specs.Flags.{even_bit, odd_bit};
 ghost use Rattle.coproc_config.specs.Table.{line, write_flags as write_flags_of};
 ghost use Rattle.coproc_config.specs.Set.{places_of};
 ghost use Rattle.coproc_config.specs.Check.{IsLawful};
-ghost use Rattle.coproc_config.specs.Accept.{rd_field as rd_field_of, source_field as source_field_of, is_even, can_read, can_write, takes, flag_of, read_flags as read_flags_of, hit_at, hit_of, entry_at, HasFlagsOf};
+ghost use Rattle.rv32_table.specs.Instr.{rd_field as rd_field_of, source_field};
+ghost use Rattle.coproc_config.specs.Accept.{is_even, can_read, can_write, takes, flag_of, read_flags as read_flags_of, hit_at, hit_of, entry_at, HasFlagsOf};
 
 use crate::operation::{Entry, Reads, Writes};
 use crate::set::{Set, Unit};
+use rv32_table::{rd_field, rs_field};
 use xif_base::{Params, ReadFlags, WriteFlags};
 
 /// The entry that takes a word, by the number of its unit and its own number there, from 0, and what
@@ -121,26 +123,9 @@ fn has_lane(params: &Params, lane: u8) -> bool
 
 fn has_pair(params: &Params, lane: u8, word: u32) -> bool
     requires { lane < 3 }
-    ensures { result ≡ (nat_lt lane params.now.dual_read && is_even (source_field_of word lane)) }
+    ensures { result ≡ (nat_lt lane params.now.dual_read && is_even (source_field word lane)) }
 {
-    lane < params.dual_read && source_field(word, lane) % 2 == 0
-}
-
-fn rd_field(word: u32) -> u32
-    ensures { result ≡ rd_field_of word }
-{
-    (word >> 7) & 0x1f
-}
-
-fn source_field(word: u32, lane: u8) -> u32
-    requires { lane < 3 }
-    ensures { result ≡ source_field_of word lane }
-{
-    match lane {
-        0 => (word >> 15) & 0x1f,
-        1 => (word >> 20) & 0x1f,
-        _ => word >> 27,
-    }
+    lane < params.dual_read && rs_field(word, lane) % 2 == 0
 }
 
 fn read_flags(reads: Reads, params: &Params) -> ReadFlags

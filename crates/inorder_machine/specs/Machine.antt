@@ -7,12 +7,12 @@ use Rattle.rv32_table.specs.declared.control.Next.{Next}
 use Rattle.rv32_table.specs.declared.control.Next.TheVariants.{Go, Misaligned}
 use Rattle.rv32_table.specs.Word.{wrapped, sign_extended}
 use Rattle.rv32_table.specs.Table.{Meaning, Computes, Loads, Stores, Jumps, Branches, Fences, Stops, line}
-use Rattle.rv32_table.specs.Instr.{decoded, source_field, target_of, value_of, next_of, access_of}
+use Rattle.rv32_table.specs.Instr.{decoded, rd_field, source_field, target_of, value_of, next_of, access_of}
 use Rattle.xif_base.specs.declared.params.Params.{Params}
 use Rattle.xif_base.specs.Flags.{even_bit, odd_bit}
 use Rattle.coproc_config.specs.declared.accept.Hit.{Hit}
 use Rattle.coproc_config.specs.Set.{UnitTable}
-use Rattle.coproc_config.specs.Accept.{rd_field, hit_of}
+use Rattle.coproc_config.specs.Accept.{hit_of}
 use Rattle.coproc_config.specs.Apply.{Outcome, applied}
 use Rattle.xif_image.specs.declared.memory.MemFault.{MemFault}
 use Rattle.xif_image.specs.declared.memory.MemFault.TheVariants as fault

@@ -50,7 +50,10 @@ pub record NamesRegisters (i : Instr) : Type 0 where
   pub rs1 : i.rs1 < 32
   pub rs2 : i.rs2 < 32
 
--- the field of source register 0, 1 or 2: rs1, rs2 or rs3
+-- the fields of a word for registers: rd, and source 0, 1 or 2, which is rs1, rs2 or rs3
+abbrev pub rd_field : ℕ → ℕ
+rd_field word = bits word 11 7
+
 abbrev pub source_field : ℕ → ℕ → ℕ
 source_field word lane = cond (lane == 0) (bits word 19 15) (cond (lane == 1) (bits word 24 20) (bits word 31 27))
 

@@ -1,11 +1,10 @@
 //! The fields of a word that name registers (RISC-V Unprivileged ISA, section 2.2).
 ghost use Rattle.std.specs.Prelude.{◌≡◌, ◌<◌};
-ghost use Rattle.rv32_table.specs.Word.{bits};
-ghost use Rattle.rv32_table.specs.Instr.{source_field};
+ghost use Rattle.rv32_table.specs.Instr.{rd_field as rd_field_of, source_field};
 
 /// The number of the register in rd, bits 11 to 7.
 pub fn rd_field(word: u32) -> u8
-    ensures field { result ≡ bits word 11 7 }
+    ensures field { result ≡ rd_field_of word }
     ensures register { result < 32 }
 {
     ((word >> 7) & 0x1f) as u8

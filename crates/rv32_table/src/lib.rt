@@ -22,6 +22,3 @@ pub use fields::{rd_field, rs_field};
 pub use instr::{Access, Instr, Kind};
 pub use memory::access;
 pub use rows::Row;
-
-#[cfg(test)]
-mod tests;

@@ -3,4 +3,6 @@
 #![tactic(auto)]
 
 #[cfg(test)]
+mod rv32;
+#[cfg(test)]
 mod signals;
