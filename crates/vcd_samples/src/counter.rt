@@ -71,11 +71,7 @@ const PARAMS: Params = Params {
 };
 
 /// The number of the samples of a waveform. No more than a piece of it is in memory.
-pub fn count_samples<S: Shelf>(
-    alloc: Global,
-    shelf: &mut S,
-    name: &str,
-) -> Result<u64, CountFail> {
+pub fn count_samples<S: Shelf>(alloc: Global, shelf: &mut S, name: &str) -> Result<u64, CountFail> {
     let mut room = vec![in alloc; 0; PIECE]?;
     let piece = room.as_mut_slice();
     let mut counter = Counter::new(alloc);

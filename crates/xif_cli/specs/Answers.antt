@@ -1,14 +1,12 @@
 -- What the program answers, and what stands afterwards.
-use Rattle.std.specs.Prelude.{◌≡◌, ◌≢◌, ◌⊎◌, ◌==◌, ◌&&◌, ◌||◌, ℕ, Bool, true, false, not, List, Option, Some, Result, Ok, Err, String, string_bytes, map}
+use Rattle.std.specs.Prelude.{◌≡◌, ◌==◌, ◌&&◌, ◌||◌, ℕ, Bool, true, false, not, List, Result, String, string_bytes, map}
 use Rattle.std.specs.declared.alloc.Global.{Global}
 use Rattle.xif_base.specs.Faults.{Rose}
-use Rattle.xif_base.specs.Files.{Files}
-use Rattle.xif_base.specs.Output.{grown, GrowsByFront}
 use Rattle.xif_base.specs.declared.outside.Which.{Which}
 use Rattle.xif_base.specs.declared.outside.Which.TheVariants as which
 use Rattle.xif_cli.specs.declared.status.Status.{Status}
 use Rattle.xif_cli.specs.declared.status.Status.TheVariants.{Done, Usage, ReadFault, WriteFault, Job, Image, TooBig, NoMemory, Unbuilt}
-use Rattle.xif_cli.specs.Outcome.{Lookup, found, without, place_of, outcome_of}
+use Rattle.xif_cli.specs.Outcome.{Lookup, place_of, outcome_of}
 use Rattle.xif_cli.specs.Words.{Form, IsCommand}
 use Rattle.xif_cli.specs.Words as form
 

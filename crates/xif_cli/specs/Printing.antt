@@ -1,7 +1,6 @@
 -- What printing a text ends with, and what it has put.
 use Rattle.std.specs.Prelude.{◌≡◌, ℕ, List, Option}
 use Rattle.xif_base.specs.Output.{grown, GrowsByFront}
-use Rattle.xif_base.specs.declared.outside.Which.{Which}
 use Rattle.xif_base.specs.declared.outside.Which.TheVariants as which
 use Rattle.xif_cli.specs.declared.status.Status.{Status}
 use Rattle.xif_cli.specs.declared.status.Status.TheVariants.{Done, WriteFault, NoMemory}

@@ -4,7 +4,7 @@ use Rattle.xif_base.specs.Files.{Files}
 use Rattle.xif_base.specs.declared.outside.Which.{Which}
 use Rattle.xif_base.specs.declared.outside.Which.TheVariants as which
 use Rattle.xif_cli.specs.declared.status.Status.{Status}
-use Rattle.xif_cli.specs.declared.status.Status.TheVariants.{Done, Usage, ReadFault, WriteFault, Job, Image, TooBig, NoMemory, Unbuilt}
+use Rattle.xif_cli.specs.declared.status.Status.TheVariants.{ReadFault, Job, Image, TooBig, NoMemory, Unbuilt}
 use Rattle.xif_cli.specs.Outcome.{Lookup, found, without, place_of}
 
 -- what a function returned, as view sees it

@@ -3,7 +3,6 @@ use Rattle.std.specs.Prelude.{ℕ, List, [], ◌++◌}
 use Rattle.std.specs.Fmt.{decimal}
 use Rattle.coproc_config.specs.declared.check.SetCause.{SetCause}
 use Rattle.coproc_config.specs.declared.check.SetCause.TheVariants.{TooManyUnits, TooManyEntries, BadMask, BadAccumulator, BadField}
-use Rattle.coproc_config.specs.declared.check.SetFault.{SetFault}
 use Rattle.xif_base.specs.declared.outside.Which.{Which}
 use Rattle.xif_base.specs.declared.outside.Which.TheVariants as which
 use Rattle.xif_image.specs.declared.image.ImageFault.{ImageFault}

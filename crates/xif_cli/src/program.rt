@@ -83,11 +83,7 @@ pub fn xif<S: Shelf, O: Out>(alloc: Global, words: &[String], shelf: &mut S, out
 }
 
 // The text that a command prints.
-fn text_of<S: Shelf>(
-    alloc: Global,
-    command: Command<'_>,
-    shelf: &mut S,
-) -> Result<String, Status>
+fn text_of<S: Shelf>(alloc: Global, command: Command<'_>, shelf: &mut S) -> Result<String, Status>
     ensures told { (m : Files) → S.files shelf.old ≡ Some m →
         Ends (IsFaulted (S.faultless shelf.old) (S.fetch_faults shelf.old) (S.fetch_faults shelf.new)) m
         (outcome_of (form_of command.entry)) (seen string_bytes result) }

@@ -45,11 +45,7 @@ pub(crate) fn read_file<S: Shelf>(
 }
 
 /// Reads the job of a command that runs it. It has to name its image.
-pub(crate) fn read_job<S: Shelf>(
-    alloc: Global,
-    name: &str,
-    shelf: &mut S,
-) -> Result<Job, Status>
+pub(crate) fn read_job<S: Shelf>(alloc: Global, name: &str, shelf: &mut S) -> Result<Job, Status>
     ensures told { (m : Files) → S.files shelf.old ≡ Some m →
         Ends (IsFaulted (S.faultless shelf.old) (S.fetch_faults shelf.old) (S.fetch_faults shelf.new)) m
         (job_in name.now) (seen (λ job. job) result) }
@@ -70,11 +66,7 @@ pub(crate) fn read_job<S: Shelf>(
 }
 
 /// Reads the image of a job.
-pub(crate) fn read_image<S: Shelf>(
-    alloc: Global,
-    job: &Job,
-    shelf: &mut S,
-) -> Result<Image, Status>
+pub(crate) fn read_image<S: Shelf>(alloc: Global, job: &Job, shelf: &mut S) -> Result<Image, Status>
     requires { IsLawfulMemory job.now.base job.now.size }
     ensures told { (m : Files) → S.files shelf.old ≡ Some m →
         Ends (IsFaulted (S.faultless shelf.old) (S.fetch_faults shelf.old) (S.fetch_faults shelf.new)) m

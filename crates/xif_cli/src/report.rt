@@ -103,7 +103,12 @@ fn push_unit(text: &mut String, unit: usize, accumulators: &[u64]) -> Result<(),
 }
 
 // Appends the line of one accumulator.
-fn push_accumulator(text: &mut String, unit: usize, number: usize, value: u64) -> Result<(), AllocError>
+fn push_accumulator(
+    text: &mut String,
+    unit: usize,
+    number: usize,
+    value: u64,
+) -> Result<(), AllocError>
     ensures { OnOk result (string_bytes text.new ≡ string_bytes text.old ++ accumulator_line unit number value) }
 {
     if value == 0 {

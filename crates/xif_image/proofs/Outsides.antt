@@ -1,5 +1,5 @@
 -- The first byte outside a memory.
-use Rattle.std.proofs.Common.{◌≡◌, ◌<◌, ◌+◌, ℕ, Bool, suc, zero, List, [], ◌∷◌, Some, None, true, false, length, refl, ap, ◌∙◌, add_assoc, add-one, subst, sym, arith}
+use Rattle.std.proofs.Common.{◌≡◌, ◌<◌, ◌+◌, ℕ, Bool, suc, zero, List, [], ◌∷◌, Some, None, true, false, length, refl, ap, arith}
 use Rattle.std.proofs.lemmas.Bool.Decides.{nat_tests}
 use Rattle.std.specs.Option.{option_map}
 use Rattle.xif_image.specs.Image.{bytes_from, IsWithin, is_within, IsFirstOutside, first_outside}

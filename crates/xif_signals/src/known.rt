@@ -77,6 +77,7 @@ impl Sample {
         if !self.is_one(Signal::IssueValid, params) {
             return true;
         }
+        // Here and below `&` reads all of them, with no branch: nearly always all are known.
         if !(self.is_known(Signal::IssueHartid, params)
             & self.is_known(Signal::IssueId, params)
             & self.is_known(Signal::IssueInstr, params))

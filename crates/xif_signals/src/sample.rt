@@ -61,12 +61,6 @@ impl Sample {
         }
     }
 
-    fn quad(&self, signal: Signal) -> Quad
-        ensures { result ≡ quad_of self.now signal }
-    {
-        self.quads[usize::from(signal.number()).saturating_sub(1)]
-    }
-
     /// The bits of a signal other than the clock.
     pub fn get(&self, signal: Signal) -> Quad
         requires { signal ≢ Clk }
@@ -82,6 +76,13 @@ impl Sample {
         ensures same { quad_of self.new signal ≡ quad }
     {
         self.quads[usize::from(signal.number()) - 1] = quad;
+    }
+
+    /// The bits of any signal: no sample has the clock, which reads as the reset does.
+    fn quad(&self, signal: Signal) -> Quad
+        ensures { result ≡ quad_of self.now signal }
+    {
+        self.quads[usize::from(signal.number()).saturating_sub(1)]
     }
 
     /// The sample in which the signals but the clock have these values, all bits of them known.

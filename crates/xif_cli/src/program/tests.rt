@@ -292,10 +292,12 @@ const UNIT: &str = "[[unit]]\naccumulators = 2\n\
 const RAW: &str = "[image]\nfile = \"p\"\nkind = \"raw\"\n";
 
 // The same where pairs are read in lane 0 and written.
-const PAIRS: &str = "[params]\nx_rfr_width = 64\nx_rfw_width = 64\nx_dualread = 1\nx_dualwrite = 1\n\
+const PAIRS: &str =
+    "[params]\nx_rfr_width = 64\nx_rfw_width = 64\nx_dualread = 1\nx_dualwrite = 1\n\
     [image]\nfile = \"p\"\nkind = \"raw\"\n";
 
-const PAIRS_OF_TWO: &str = "[params]\nx_rfr_width = 64\nx_rfw_width = 64\nx_dualread = 1\nx_dualwrite = 1\n\
+const PAIRS_OF_TWO: &str =
+    "[params]\nx_rfr_width = 64\nx_rfw_width = 64\nx_dualread = 1\nx_dualwrite = 1\n\
     [image]\nfile = \"p\"\nkind = \"raw\"\n[core]\nbudget = 2\n";
 
 // The sum of x2 and x3 as a pair, and of the pair at an odd field.
@@ -406,7 +408,11 @@ fn refuses_jobs_with_a_cause(rt: HostRuntime) -> Result<(), Fail> {
         let words = split(rt.alloc(), line)?;
         let mut shelf = shelf_of(rt.alloc(), head, b"?/ 00 01 02")?;
         let mut out = MemOut::new(rt.alloc(), 64, &[])?;
-        assert_eq!(rt; xif(rt.alloc(), &words, &mut shelf, &mut out), status, "at {head}");
+        assert_eq!(rt;
+            xif(rt.alloc(), &words, &mut shelf, &mut out),
+            status,
+            "at {head}"
+        );
         assert_eq!(rt; out.bytes().len(), 0);
     }
     Ok(())

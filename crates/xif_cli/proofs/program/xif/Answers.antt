@@ -1,5 +1,4 @@
-use Rattle.std.proofs.Common.{◌≡◌, ◌⊎◌, inl, inr, Option, Some, None, Result, Ok, Err, ap, refl, List, ℕ}
-use Rattle.xif_base.specs.Files.{Files}
+use Rattle.std.proofs.Common.{◌≡◌, ◌⊎◌, inl, inr, Option, Some, None, Result, Err, refl, List, ℕ}
 use Rattle.xif_cli.specs.declared.status.Status.{Status}
 use Rattle.xif_cli.specs.declared.status.Status.TheVariants.{ReadFault}
 use Rattle.xif_cli.specs.Words.{form_of}
@@ -12,10 +11,10 @@ told_or_not (Some m) = inr (m, refl)
 pub returns-in-Err-clause-read_fault : goal.returns-in-Err-clause-read_fault
 returns-in-Err-clause-read_fault g c = λ w is.
     elim (told_or_not (g.S.Shelf.files c.args.shelf.now)) [
-    | inl none ↦ inl (c.in-Err.ensures.untold none w (cc))
-    | inr told ↦ elim ((c.in-Err.ensures.told told.0 told.1).outcome) [
-      | inl meant ↦ inr (told.0, (told.1, (form_of c.in-Some.command, (c.in-Some.ensures.found, meant))))
-      | inr stop ↦ elim stop [ inl lacks ↦ absurd (cc) | inr faulted ↦ inl faulted.0 ]
+      | inl none ↦ inl (c.in-Err.ensures.untold none w (cc))
+      | inr told ↦ elim ((c.in-Err.ensures.told told.0 told.1).outcome) [
+        | inl meant ↦ inr (told.0, (told.1, (form_of c.in-Some.command, (c.in-Some.ensures.found, meant))))
+        | inr stop ↦ elim stop [ inl lacks ↦ absurd (cc) | inr faulted ↦ inl faulted.0 ]
       ]
     ]
 

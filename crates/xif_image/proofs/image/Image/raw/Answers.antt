@@ -7,6 +7,7 @@ use Rattle.xif_image.specs.Image.{Placement, bytes_from, IsWithin, unless_outsid
 use Rattle.xif_image.proofs.Outsides.{none_outside, some_outside}
 use Rattle.xif_image.proofs.Rows.{bytes_from-more}
 use Rattle.xif_image.proofs.image.Image.raw.Goals as goal
+
 pub loop-at-preserved : goal.loop-at-preserved
 loop-at-preserved c =
     let i = c.loop-at.at in
