@@ -31,13 +31,9 @@ mod scopes;
 mod state;
 mod step;
 mod stop;
-#[cfg(test)]
-mod tests;
 mod token;
 mod word;
 mod writer;
-#[cfg(test)]
-mod writer_tests;
 
 pub use declaration::{Declarations, Variable};
 pub use digit::{Digit, Digits};

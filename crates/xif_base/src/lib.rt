@@ -29,8 +29,6 @@ mod name;
 mod outside;
 mod params;
 mod read;
-#[cfg(test)]
-mod tests;
 mod write;
 
 pub use disk::{DiskShelf, StdOut};

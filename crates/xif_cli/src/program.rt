@@ -102,6 +102,3 @@ fn text_of<S: Shelf>(alloc: Global, command: Command<'_>, shelf: &mut S) -> Resu
         _ => Err(Status::Unbuilt),
     }
 }
-
-#[cfg(test)]
-mod tests;

@@ -21,8 +21,6 @@ mod job;
 mod memory;
 mod params;
 mod readers;
-#[cfg(test)]
-mod tests;
 mod units;
 
 pub use addresses::Addresses;

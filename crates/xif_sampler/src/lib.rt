@@ -20,8 +20,6 @@ mod place;
 mod read_back;
 mod sampler;
 mod source;
-#[cfg(test)]
-mod tests;
 
 pub use fault::{MapFail, MapFault};
 pub use items::sample_items;

@@ -3,6 +3,22 @@
 #![tactic(auto)]
 
 #[cfg(test)]
+mod base;
+#[cfg(test)]
+mod jobs;
+#[cfg(test)]
+mod maps;
+#[cfg(test)]
+mod pieces;
+#[cfg(test)]
+mod program;
+#[cfg(test)]
 mod rv32;
 #[cfg(test)]
 mod signals;
+#[cfg(test)]
+mod vcd_reader;
+#[cfg(test)]
+mod vcd_writer;
+#[cfg(test)]
+mod waveforms;

@@ -1,5 +1,5 @@
 use Rattle.std.proofs.Common.{◌≡◌}
-use Rattle.vcd_text.proofs.writer_tests.the_text_of_a_run.Given as goal
+use Rattle.xif_tests.proofs.vcd_writer.the_text_of_a_run.Given as goal
 
 abbrev pub invariant-loop-bus : goal.invariant-loop-bus
 invariant-loop-bus g l = record {

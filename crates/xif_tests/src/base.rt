@@ -1,7 +1,10 @@
-// Each public call on its happy path, and the calls that are to fail.
-use super::*;
+// Files and outputs: each public call on its happy path, and the calls that are to fail. And parameters and flags.
 use std::fs;
 use std::test::Fail;
+use xif_base::{
+    DiskShelf, Failed, Key, MemOut, MemShelf, Name, Out, ParamFault, Params, ReadFail, ReadFlags,
+    Shelf, StdOut, WriteFail, WriteFlags, put_all, read_all,
+};
 
 const LETTERS: &[u8] = b"abcdefg";
 
@@ -101,7 +104,7 @@ fn all_bytes_are_put_or_a_front_of_them(rt: HostRuntime) -> Result<(), Fail> {
 
 #[test]
 fn a_shelf_on_disk_writes_and_reads_a_file_and_misses_one(rt: HostRuntime) -> Result<(), Fail> {
-    let path = "/tmp/xif_base_a_shelf_on_disk";
+    let path = "/tmp/xif_tests_a_shelf_on_disk";
     let mut shelf = DiskShelf::new(&rt);
     assert_eq!(rt; shelf.append(path, LETTERS), Err(WriteFail::Failed));
     assert_eq!(rt; shelf.start(path), Ok(()));
@@ -129,130 +132,135 @@ fn the_standard_output_takes_a_short_piece(rt: HostRuntime) {
     assert_eq!(rt; out.put(b"short\n"), Ok(6));
 }
 
+const LEAST: Params = Params {
+    num_rs: 2,
+    id_width: 3,
+    rfr_width: 32,
+    rfw_width: 32,
+    num_harts: 1,
+    hartid_width: 1,
+    dual_read: 0,
+    dual_write: false,
+    split: true,
+};
+
+const MOST: Params = Params {
+    num_rs: 3,
+    id_width: 12,
+    rfr_width: 64,
+    rfw_width: 64,
+    num_harts: 4,
+    hartid_width: 8,
+    dual_read: 3,
+    dual_write: true,
+    split: false,
+};
+
+const WIDE: Params = Params {
+    num_harts: 4,
+    hartid_width: 1,
+    dual_read: 3,
+    ..LEAST
+};
+
+const CHECKS: [(Params, Result<(), ParamFault>); 18] = [
+    (LEAST, Ok(())),
+    (MOST, Ok(())),
+    (Params { num_rs: 1, ..MOST }, Err(ParamFault::NumRs)),
+    (Params { num_rs: 4, ..MOST }, Err(ParamFault::NumRs)),
+    (
+        Params {
+            id_width: 2,
+            ..MOST
+        },
+        Err(ParamFault::IdWidth),
+    ),
+    (
+        Params {
+            id_width: 13,
+            ..MOST
+        },
+        Err(ParamFault::IdWidth),
+    ),
+    (
+        Params {
+            rfr_width: 33,
+            ..LEAST
+        },
+        Err(ParamFault::RfrWidth),
+    ),
+    (
+        Params {
+            rfr_width: 32,
+            ..MOST
+        },
+        Err(ParamFault::RfrWidth),
+    ),
+    (
+        Params {
+            rfw_width: 0,
+            ..LEAST
+        },
+        Err(ParamFault::RfwWidth),
+    ),
+    (
+        Params {
+            rfw_width: 32,
+            ..MOST
+        },
+        Err(ParamFault::RfwWidth),
+    ),
+    (
+        Params {
+            num_harts: 0,
+            ..MOST
+        },
+        Err(ParamFault::NumHarts),
+    ),
+    (
+        Params {
+            num_harts: 5,
+            ..MOST
+        },
+        Err(ParamFault::NumHarts),
+    ),
+    (
+        Params {
+            hartid_width: 0,
+            ..MOST
+        },
+        Err(ParamFault::HartidWidth),
+    ),
+    (
+        Params {
+            hartid_width: 9,
+            ..MOST
+        },
+        Err(ParamFault::HartidWidth),
+    ),
+    (
+        Params {
+            hartid_width: 1,
+            ..MOST
+        },
+        Err(ParamFault::HartidWidth),
+    ),
+    (Params { num_rs: 2, ..MOST }, Err(ParamFault::DualRead)),
+    // Three faults, of which the first is told.
+    (WIDE, Err(ParamFault::RfrWidth)),
+    (
+        Params {
+            rfr_width: 64,
+            ..WIDE
+        },
+        Err(ParamFault::HartidWidth),
+    ),
+];
+
 #[test]
 fn parameters_are_checked_in_the_order_of_their_fields(rt: HostRuntime) {
-    let least = Params {
-        num_rs: 2,
-        id_width: 3,
-        rfr_width: 32,
-        rfw_width: 32,
-        num_harts: 1,
-        hartid_width: 1,
-        dual_read: 0,
-        dual_write: false,
-        split: true,
-    };
-    let most = Params {
-        num_rs: 3,
-        id_width: 12,
-        rfr_width: 64,
-        rfw_width: 64,
-        num_harts: 4,
-        hartid_width: 8,
-        dual_read: 3,
-        dual_write: true,
-        split: false,
-    };
-    let wide = Params {
-        num_harts: 4,
-        hartid_width: 1,
-        dual_read: 3,
-        ..least
-    };
-    for (params, want) in [
-        (least, Ok(())),
-        (most, Ok(())),
-        (Params { num_rs: 1, ..most }, Err(ParamFault::NumRs)),
-        (Params { num_rs: 4, ..most }, Err(ParamFault::NumRs)),
-        (
-            Params {
-                id_width: 2,
-                ..most
-            },
-            Err(ParamFault::IdWidth),
-        ),
-        (
-            Params {
-                id_width: 13,
-                ..most
-            },
-            Err(ParamFault::IdWidth),
-        ),
-        (
-            Params {
-                rfr_width: 33,
-                ..least
-            },
-            Err(ParamFault::RfrWidth),
-        ),
-        (
-            Params {
-                rfr_width: 32,
-                ..most
-            },
-            Err(ParamFault::RfrWidth),
-        ),
-        (
-            Params {
-                rfw_width: 0,
-                ..least
-            },
-            Err(ParamFault::RfwWidth),
-        ),
-        (
-            Params {
-                rfw_width: 32,
-                ..most
-            },
-            Err(ParamFault::RfwWidth),
-        ),
-        (
-            Params {
-                num_harts: 0,
-                ..most
-            },
-            Err(ParamFault::NumHarts),
-        ),
-        (
-            Params {
-                num_harts: 5,
-                ..most
-            },
-            Err(ParamFault::NumHarts),
-        ),
-        (
-            Params {
-                hartid_width: 0,
-                ..most
-            },
-            Err(ParamFault::HartidWidth),
-        ),
-        (
-            Params {
-                hartid_width: 9,
-                ..most
-            },
-            Err(ParamFault::HartidWidth),
-        ),
-        (
-            Params {
-                hartid_width: 1,
-                ..most
-            },
-            Err(ParamFault::HartidWidth),
-        ),
-        (Params { num_rs: 2, ..most }, Err(ParamFault::DualRead)),
-        // Three faults, of which the first is told.
-        (wide, Err(ParamFault::RfrWidth)),
-        (
-            Params {
-                rfr_width: 64,
-                ..wide
-            },
-            Err(ParamFault::HartidWidth),
-        ),
-    ] {
-        assert_eq!(rt; params.check(), want, "at {params:?}");
+    for (params, want) in &CHECKS {
+        assert_eq!(rt; params.check(), *want, "at {params:?}");
     }
 }
 

@@ -2,7 +2,7 @@ use Rattle.std.proofs.Common.{ap, sym, ◌∙◌, subst}
 use Rattle.xif_base.specs.declared.params.Params.{Params}
 use Rattle.xif_signals.specs.Bus.{FitsWidths}
 use Rattle.vcd_text.specs.Writing.{Progress}
-use Rattle.vcd_text.proofs.writer_tests.the_text_of_a_run.Goals as goal
+use Rattle.xif_tests.proofs.vcd_writer.the_text_of_a_run.Goals as goal
 
 pub cycle-requires-clause-fits : goal.cycle-requires-clause-fits
 cycle-requires-clause-fits g c =

@@ -1,9 +1,9 @@
 // Whole calls over a shelf and an output in memory.
-use super::*;
 use std::alloc::{AllocError, Global};
 use std::process::Abort;
 use std::test::Fail;
-use xif_base::{MemOut, MemShelf};
+use xif_base::{MemOut, MemShelf, Which};
+use xif_cli::{Status, xif};
 use xif_image::ImageFault;
 use xif_job::{Field, JobFault};
 
@@ -79,9 +79,9 @@ const fn plain(
     }
 }
 
-fn split(alloc: Global, line: &str) -> Result<Vec<String>, AllocError> {
+fn split(alloc: Global, line: &str, between: char) -> Result<Vec<String>, AllocError> {
     let mut words = Vec::new(alloc);
-    for word in line.split(' ') {
+    for word in line.split(between) {
         words.push(String::from_str(alloc, word)?)?;
     }
     Ok(words)
@@ -100,7 +100,7 @@ fn check(rt: &(impl Abort + AllocGlobal), case: &Case) -> Result<(), Fail> {
     let mut shelf = MemShelf::new(rt.alloc(), 5, case.failing_fetches, &[], &[])?;
     shelf.insert("p.bin", &image)?;
     let mut out = MemOut::new(rt.alloc(), 7, case.failing_puts)?;
-    let words = split(rt.alloc(), case.words)?;
+    let words = split(rt.alloc(), case.words, ' ')?;
     let status = xif(rt.alloc(), &words, &mut shelf, &mut out);
     assert_eq!(rt; status, case.status, "at {}", case.words);
     assert_eq!(rt; out.bytes(), case.output.as_bytes(), "at {}", case.words);
@@ -113,82 +113,84 @@ fn check(rt: &(impl Abort + AllocGlobal), case: &Case) -> Result<(), Fail> {
     Ok(())
 }
 
+const RUNS: [(&str, &[u32], &str); 14] = [
+    (
+        "raw p.bin 10",
+        FIVE,
+        "end=ecall pc=0x00000004 retired=1\nx1=0x00000005\n",
+    ),
+    (
+        "raw p.bin 1",
+        FIVE,
+        "end=budget pc=0x00000004 retired=1\nx1=0x00000005\n",
+    ),
+    (
+        "raw p.bin 10",
+        &[],
+        "end=fetch-outside pc=0x00000000 retired=0\n",
+    ),
+    (
+        "raw p.bin 1000000",
+        WRAPS,
+        "end=fetch-outside pc=0x0000000c retired=3\nx31=0x000007ff\n",
+    ),
+    (
+        "raw p.bin 10",
+        DIVIDES,
+        "end=ecall pc=0x0000001c retired=7\nx1=0x80000000\nx2=0xffffffff\nx3=0x80000000\n\
+        x5=0x00000007\nx6=0xffffffff\nx7=0x00000007\n",
+    ),
+    (
+        "raw p.bin 10",
+        JUMPS,
+        "end=ecall pc=0x00000010 retired=3\nx1=0x0000000d\nx2=0x00000008\n",
+    ),
+    (
+        "raw p.bin 10",
+        TAKEN,
+        "end=target-misaligned pc=0x0000000c retired=2\nx1=0x0000000d\nx2=0x00000008\n",
+    ),
+    (
+        "raw p.bin 10",
+        STORES,
+        "end=store-misaligned pc=0x00000010 retired=4\nx1=0xffffffff\nx2=0x000000ff\n\
+        x3=0xffffffff\nm 0x00000000=0xffffffff\n",
+    ),
+    (
+        "raw p.bin 1",
+        &[0x0010_0073],
+        "end=ebreak pc=0x00000000 retired=0\n",
+    ),
+    (
+        "raw p.bin 1",
+        &[0x0000_0000],
+        "end=illegal pc=0x00000000 retired=0\n",
+    ),
+    (
+        "raw p.bin 1",
+        &[0x4000_2083],
+        "end=load-outside pc=0x00000000 retired=0\n",
+    ),
+    (
+        "raw p.bin 1",
+        &[0x4000_2023],
+        "end=store-outside pc=0x00000000 retired=0\n",
+    ),
+    (
+        "raw p.bin 1",
+        &[0x0010_1083],
+        "end=load-misaligned pc=0x00000000 retired=0\n",
+    ),
+    (
+        "raw p.bin 2",
+        &[0x0000_000f],
+        "end=fetch-outside pc=0x00000004 retired=1\n",
+    ),
+];
+
 #[test]
 fn runs_images(rt: HostRuntime) -> Result<(), Fail> {
-    for (words, image, output) in [
-        (
-            "raw p.bin 10",
-            FIVE,
-            "end=ecall pc=0x00000004 retired=1\nx1=0x00000005\n",
-        ),
-        (
-            "raw p.bin 1",
-            FIVE,
-            "end=budget pc=0x00000004 retired=1\nx1=0x00000005\n",
-        ),
-        (
-            "raw p.bin 10",
-            &[],
-            "end=fetch-outside pc=0x00000000 retired=0\n",
-        ),
-        (
-            "raw p.bin 1000000",
-            WRAPS,
-            "end=fetch-outside pc=0x0000000c retired=3\nx31=0x000007ff\n",
-        ),
-        (
-            "raw p.bin 10",
-            DIVIDES,
-            "end=ecall pc=0x0000001c retired=7\nx1=0x80000000\nx2=0xffffffff\nx3=0x80000000\n\
-            x5=0x00000007\nx6=0xffffffff\nx7=0x00000007\n",
-        ),
-        (
-            "raw p.bin 10",
-            JUMPS,
-            "end=ecall pc=0x00000010 retired=3\nx1=0x0000000d\nx2=0x00000008\n",
-        ),
-        (
-            "raw p.bin 10",
-            TAKEN,
-            "end=target-misaligned pc=0x0000000c retired=2\nx1=0x0000000d\nx2=0x00000008\n",
-        ),
-        (
-            "raw p.bin 10",
-            STORES,
-            "end=store-misaligned pc=0x00000010 retired=4\nx1=0xffffffff\nx2=0x000000ff\n\
-            x3=0xffffffff\nm 0x00000000=0xffffffff\n",
-        ),
-        (
-            "raw p.bin 1",
-            &[0x0010_0073],
-            "end=ebreak pc=0x00000000 retired=0\n",
-        ),
-        (
-            "raw p.bin 1",
-            &[0x0000_0000],
-            "end=illegal pc=0x00000000 retired=0\n",
-        ),
-        (
-            "raw p.bin 1",
-            &[0x4000_2083],
-            "end=load-outside pc=0x00000000 retired=0\n",
-        ),
-        (
-            "raw p.bin 1",
-            &[0x4000_2023],
-            "end=store-outside pc=0x00000000 retired=0\n",
-        ),
-        (
-            "raw p.bin 1",
-            &[0x0010_1083],
-            "end=load-misaligned pc=0x00000000 retired=0\n",
-        ),
-        (
-            "raw p.bin 2",
-            &[0x0000_000f],
-            "end=fetch-outside pc=0x00000004 retired=1\n",
-        ),
-    ] {
+    for (words, image, output) in &RUNS {
         check(&rt, &plain(words, image, Status::Done, output))?;
     }
     Ok(())
@@ -235,7 +237,7 @@ fn refuses_with_a_cause(rt: HostRuntime) -> Result<(), Fail> {
 
 #[test]
 fn takes_an_image_up_to_the_limit(rt: HostRuntime) -> Result<(), Fail> {
-    let words = split(rt.alloc(), "raw p.bin 1")?;
+    let words = split(rt.alloc(), "raw p.bin 1", ' ')?;
     for (length, wanted) in [
         (65_536, Status::Done),
         (65_537, Status::TooBig(Which::Image)),
@@ -249,32 +251,34 @@ fn takes_an_image_up_to_the_limit(rt: HostRuntime) -> Result<(), Fail> {
     Ok(())
 }
 
+const LINES: [(Status, u8, &str); 10] = [
+    (Status::Done, 0, ""),
+    (Status::Usage, 2, "usage"),
+    (Status::ReadFault(Which::Image), 3, "read image"),
+    (Status::WriteFault(Which::Output), 4, "write output"),
+    (
+        Status::Job(JobFault::OutOfRange(Field::ParamsDualRead)),
+        5,
+        "job range params.x_dualread",
+    ),
+    (Status::Job(JobFault::NotToml), 5, "job not-toml"),
+    (
+        Status::Image(ImageFault::BadToken { at: 7 }),
+        6,
+        "image bad-token at=7",
+    ),
+    (Status::TooBig(Which::Image), 9, "too-big image"),
+    (Status::NoMemory, 10, "no memory"),
+    (Status::Unbuilt, 11, "unbuilt"),
+];
+
 #[test]
 fn tells_each_status(rt: HostRuntime) -> Result<(), Fail> {
-    for (status, number, line) in [
-        (Status::Done, 0, ""),
-        (Status::Usage, 2, "usage"),
-        (Status::ReadFault(Which::Image), 3, "read image"),
-        (Status::WriteFault(Which::Output), 4, "write output"),
-        (
-            Status::Job(JobFault::OutOfRange(Field::ParamsDualRead)),
-            5,
-            "job range params.x_dualread",
-        ),
-        (Status::Job(JobFault::NotToml), 5, "job not-toml"),
-        (
-            Status::Image(ImageFault::BadToken { at: 7 }),
-            6,
-            "image bad-token at=7",
-        ),
-        (Status::TooBig(Which::Image), 9, "too-big image"),
-        (Status::NoMemory, 10, "no memory"),
-        (Status::Unbuilt, 11, "unbuilt"),
-    ] {
+    for (status, number, line) in &LINES {
         let text = status.to_string(rt.alloc())?;
-        assert_eq!(rt; text.as_str(), line);
-        assert_eq!(rt; status.number(), number, "{line}");
-        assert_eq!(rt; status.is_fault(), number > 1, "{line}");
+        assert_eq!(rt; text.as_str(), *line);
+        assert_eq!(rt; status.number(), *number, "{line}");
+        assert_eq!(rt; status.is_fault(), *number > 1, "{line}");
     }
     Ok(())
 }
@@ -331,42 +335,44 @@ fn shelf_of(alloc: Global, head: &str, image: &[u8]) -> Result<MemShelf, Fail> {
     Ok(shelf)
 }
 
+const STEPS: [(&str, &[u32], &str); 6] = [
+    (
+        RAW,
+        DIVIDES,
+        "end=ecall pc=0x0000001c retired=7\nx1=0x80000000\nx2=0xffffffff\nx3=0x80000000\n\
+        x5=0x00000007\nx6=0xffffffff\nx7=0x00000007\n",
+    ),
+    (
+        RAW,
+        TAKEN,
+        "end=target-misaligned pc=0x0000000c retired=2\nx1=0x0000000d\nx2=0x00000008\n",
+    ),
+    (
+        PAIRS,
+        SUMS,
+        "end=illegal pc=0x0000000c retired=3\nx2=0x00000005\nx3=0x00000006\nx5=0x0000000b\n",
+    ),
+    (
+        PAIRS_OF_TWO,
+        SUMS,
+        "end=budget pc=0x00000008 retired=2\nx2=0x00000005\nx3=0x00000006\n",
+    ),
+    (
+        PAIRS,
+        PAIR_AT_ZERO,
+        "end=ecall pc=0x00000014 retired=5\nx1=0x00000009\nx2=0x00000005\nx3=0x00000006\n",
+    ),
+    (
+        RAW,
+        ACCUMULATES,
+        "end=ecall pc=0x0000000c retired=3\nx1=0x00000003\nu0.a0=0x0000000000000006\n",
+    ),
+];
+
 #[test]
 fn steps_jobs(rt: HostRuntime) -> Result<(), Fail> {
-    let words = split(rt.alloc(), "step j")?;
-    for (head, image, output) in [
-        (
-            RAW,
-            DIVIDES,
-            "end=ecall pc=0x0000001c retired=7\nx1=0x80000000\nx2=0xffffffff\nx3=0x80000000\n\
-            x5=0x00000007\nx6=0xffffffff\nx7=0x00000007\n",
-        ),
-        (
-            RAW,
-            TAKEN,
-            "end=target-misaligned pc=0x0000000c retired=2\nx1=0x0000000d\nx2=0x00000008\n",
-        ),
-        (
-            PAIRS,
-            SUMS,
-            "end=illegal pc=0x0000000c retired=3\nx2=0x00000005\nx3=0x00000006\nx5=0x0000000b\n",
-        ),
-        (
-            PAIRS_OF_TWO,
-            SUMS,
-            "end=budget pc=0x00000008 retired=2\nx2=0x00000005\nx3=0x00000006\n",
-        ),
-        (
-            PAIRS,
-            PAIR_AT_ZERO,
-            "end=ecall pc=0x00000014 retired=5\nx1=0x00000009\nx2=0x00000005\nx3=0x00000006\n",
-        ),
-        (
-            RAW,
-            ACCUMULATES,
-            "end=ecall pc=0x0000000c retired=3\nx1=0x00000003\nu0.a0=0x0000000000000006\n",
-        ),
-    ] {
+    let words = split(rt.alloc(), "step j", ' ')?;
+    for (head, image, output) in &STEPS {
         let image = bytes_of(rt.alloc(), image)?;
         let mut shelf = shelf_of(rt.alloc(), head, &image)?;
         let mut out = MemOut::new(rt.alloc(), 64, &[])?;
@@ -377,43 +383,94 @@ fn steps_jobs(rt: HostRuntime) -> Result<(), Fail> {
     Ok(())
 }
 
+const REFUSED: [(&str, &str, Status); 7] = [
+    ("step q", RAW, Status::ReadFault(Which::Job)),
+    ("step j", "x =", Status::Job(JobFault::NotToml)),
+    ("step j", "[script]\n", Status::Unbuilt),
+    (
+        "step j",
+        "[image]\nfile = \"q\"\n",
+        Status::ReadFault(Which::Image),
+    ),
+    (
+        "step j",
+        "[params]\nx_dualread = 3\nx_rfr_width = 64\n",
+        Status::Job(JobFault::OutOfRange(Field::ParamsDualRead)),
+    ),
+    (
+        "step j",
+        "[image]\nfile = \"p\"\n",
+        Status::Image(ImageFault::BadToken { at: 0 }),
+    ),
+    (
+        "step j",
+        "[memory]\nsize = 4\n[image]\nfile = \"p\"\nkind = \"raw\"\n",
+        Status::Image(ImageFault::Outside { at: 4 }),
+    ),
+];
+
 #[test]
 fn refuses_jobs_with_a_cause(rt: HostRuntime) -> Result<(), Fail> {
-    let wide = JobFault::OutOfRange(Field::ParamsDualRead);
-    for (line, head, status) in [
-        ("step q", RAW, Status::ReadFault(Which::Job)),
-        ("step j", "x =", Status::Job(JobFault::NotToml)),
-        ("step j", "[script]\n", Status::Unbuilt),
-        (
-            "step j",
-            "[image]\nfile = \"q\"\n",
-            Status::ReadFault(Which::Image),
-        ),
-        (
-            "step j",
-            "[params]\nx_dualread = 3\nx_rfr_width = 64\n",
-            Status::Job(wide),
-        ),
-        (
-            "step j",
-            "[image]\nfile = \"p\"\n",
-            Status::Image(ImageFault::BadToken { at: 0 }),
-        ),
-        (
-            "step j",
-            "[memory]\nsize = 4\n[image]\nfile = \"p\"\nkind = \"raw\"\n",
-            Status::Image(ImageFault::Outside { at: 4 }),
-        ),
-    ] {
-        let words = split(rt.alloc(), line)?;
+    for (line, head, status) in &REFUSED {
+        let words = split(rt.alloc(), line, ' ')?;
         let mut shelf = shelf_of(rt.alloc(), head, b"?/ 00 01 02")?;
         let mut out = MemOut::new(rt.alloc(), 64, &[])?;
         assert_eq!(rt;
             xif(rt.alloc(), &words, &mut shelf, &mut out),
-            status,
+            *status,
             "at {head}"
         );
         assert_eq!(rt; out.bytes().len(), 0);
+    }
+    Ok(())
+}
+
+// What words ask for, over no files: a word is what stands between bars.
+const FORMS: [(&str, Status); 10] = [
+    ("raw|a.bin|1", Status::ReadFault(Which::Image)),
+    ("raw|a.bin|1000000", Status::ReadFault(Which::Image)),
+    ("step|a.toml", Status::ReadFault(Which::Job)),
+    ("run|a.toml", Status::Unbuilt),
+    ("run|step", Status::Unbuilt),
+    ("judge|a.toml|b.vcd", Status::Unbuilt),
+    ("gen|0|1", Status::Unbuilt),
+    ("gen|4294967295|20000", Status::Unbuilt),
+    ("harts|a.toml", Status::Unbuilt),
+    ("replay|a.toml|b.vcd", Status::Unbuilt),
+];
+
+// Texts of words, a text a line, that are no form.
+const COUNTS: &str =
+    "\nraw\nraw|a.bin\nraw|a.bin|5|5\nstep\nstep|a|b\nrun\nrun|a|b\njudge|a\njudge|a|b|c\n\
+    gen|1\ngen|1|1|1\nharts\nharts|a|b\nreplay|a\nreplay|a|b|c\n--help\nStep|a\nsteps|a\n step|a";
+
+const NUMBERS: &str =
+    "raw|a.bin|0\nraw|a.bin|1000001\nraw|a.bin|010\nraw|a.bin|+5\nraw|a.bin|5 \nraw|a.bin| 5\n\
+    raw|a.bin|\nraw|a.bin|-0\nraw|a.bin|00\nraw|a.bin|٥\nraw|a.bin|0x5\nraw|a.bin|18446744073709551617\n\
+    gen|4294967296|1\ngen|0|0\ngen|0|20001\ngen|00|1\ngen|-0|1\ngen|+0|1\ngen|01|1\ngen||1\n\
+    gen|100000000000000000000000000000000000000000000000000005|1";
+
+fn ends_with(rt: &(impl Abort + AllocGlobal), line: &str, status: Status) -> Result<(), Fail> {
+    let words = split(rt.alloc(), line, '|')?;
+    let mut shelf = MemShelf::new(rt.alloc(), 1, &[], &[], &[])?;
+    let mut out = MemOut::new(rt.alloc(), 1, &[])?;
+    assert_eq!(rt;
+        xif(rt.alloc(), &words, &mut shelf, &mut out),
+        status,
+        "at {line}"
+    );
+    Ok(())
+}
+
+#[test]
+fn words_are_forms_or_usage(rt: HostRuntime) -> Result<(), Fail> {
+    for (line, status) in &FORMS {
+        ends_with(&rt, line, *status)?;
+    }
+    for lines in [COUNTS, NUMBERS] {
+        for line in lines.split('\n') {
+            ends_with(&rt, line, Status::Usage)?;
+        }
     }
     Ok(())
 }

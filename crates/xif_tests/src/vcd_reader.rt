@@ -1,11 +1,11 @@
 // Waveforms with the fault of each, or with what it says. The outcomes are those of an independent model of
 // the format.
-ghost use Rattle.std.specs.Prelude.{◌<◌, ◌≤◌, ◌^◌, length};
 
-use super::*;
+use crate::pieces::read;
 use std::alloc::{AllocError, Global};
 use std::process::Abort;
 use std::test::Fail;
+use vcd_text::{Declarations, Digit, FeedFail, Item, Reader, VcdCause, VcdFault};
 
 /// Where the fault of a text is and what it is, if there is one.
 type Outcome = Option<(u64, VcdCause)>;
@@ -112,19 +112,8 @@ fn fault(at: u64, cause: VcdCause) -> Result<(), FeedFail> {
     Err(FeedFail::Vcd(VcdFault { at, cause }))
 }
 
-/// Reads a text in pieces of a length.
-fn read(alloc: Global, text: &[u8], len: usize) -> Result<(), FeedFail>
-    requires few { length text.now < 2 ^ 16 }
-    requires some { 1 ≤ len }
-{
-    let mut reader = Reader::new(alloc);
-    let mut rest = text;
-    while !rest.is_empty() {
-        let (piece, more) = rest.split_at(len.min(rest.len()));
-        reader.feed(piece)?;
-        rest = more;
-    }
-    reader.close()
+fn outcome(read: Result<Reader, FeedFail>) -> Result<(), FeedFail> {
+    read.map(|_| ())
 }
 
 /// Reads a text whole and in pieces.
@@ -135,7 +124,11 @@ fn outcome_is(rt: &impl Abort, alloc: Global, text: &str, want: Outcome) {
         Some((at, cause)) => fault(at, cause),
     };
     for len in [10_000, 1, 7] {
-        assert_eq!(rt; read(alloc, text.as_bytes(), len), want, "{len} {text:?}");
+        assert_eq!(rt;
+            outcome(read(alloc, text.as_bytes(), len)),
+            want,
+            "{len} {text:?}"
+        );
     }
 }
 
@@ -274,11 +267,11 @@ fn variables_and_items_come_in_order(rt: HostRuntime) -> Result<(), Fail> {
     assert!(rt; reader.take().is_none());
     // A name is text.
     assert_eq!(rt;
-        read(rt.alloc(), b"$scope module \xff $end", 3),
+        outcome(read(rt.alloc(), b"$scope module \xff $end", 3)),
         fault(0, VcdCause::BadToken)
     );
     assert_eq!(rt;
-        read(rt.alloc(), b"$var wire 1 ! \xc3( $end", 3),
+        outcome(read(rt.alloc(), b"$var wire 1 ! \xc3( $end", 3)),
         fault(0, VcdCause::BadVar)
     );
     Ok(())

@@ -1,5 +1,5 @@
 use Rattle.std.proofs.Common.{◌≡◌, ◌≤◌, ◌+◌, length, false}
-use Rattle.vcd_text.proofs.tests.read.Given as goal
+use Rattle.xif_tests.proofs.pieces.read.Given as goal
 
 abbrev pub invariant-loop-rest : goal.invariant-loop-rest
 invariant-loop-rest l = record { room : l.reader.size + length l.rest ≤ length l.fn.text; not_closed : l.reader.is_closed ≡ false }

@@ -1,7 +1,7 @@
 // The text of a run, with the smallest parameters, and of one cycle with the greatest. Lines are joined by bars.
-use super::*;
 use std::alloc::{AllocError, Global};
 use std::test::Fail;
+use vcd_text::Writer;
 use xif_base::Params;
 use xif_signals::Bus;
 
