@@ -86,6 +86,7 @@ impl Reader {
         ensures failed { self.old.has_failed ≡ true → (result ≡ Err FeedFail.NoMemory) × (self.new ≡ self.old) }
         ensures declared { (vs : List Variable) → self.old.read.variables ≡ Some vs → self.new.has_failed ≡ false → self.new.read.variables ≡ Some vs }
         ensures ended { OnOk result (self.new.is_closed ≡ true) }
+        ensures alive { OnOk result (self.new.has_failed ≡ false) }
         ensures not_closed { OnErr result (self.new.is_closed ≡ false) }
         ensures told { (f : VcdFault) → result ≡ Err (FeedFail.Vcd f) → IsFaulty self.new f }
         ensures size { self.new.size ≡ self.old.size }

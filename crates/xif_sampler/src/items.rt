@@ -1,14 +1,12 @@
 // The samples of all items of a waveform at once.
-ghost use Rattle.std.specs.Prelude.{◌≡◌, ◌++◌, List, [], ◌∷◌, Err, OnOk, IfOk, IfErr, IsOk};
+ghost use Rattle.std.specs.Prelude.{◌≡◌, ◌++◌, List, [], Err, OnOk, IfOk, IfErr, IsOk};
 ghost use Rattle.std.specs.Option.{option_to_list};
 ghost use Rattle.xif_base.specs.Params.{IsInRange};
-ghost use Rattle.vcd_text.specs.declared.item.Item.{Item};
 ghost use Rattle.xif_sampler.specs.declared.source.Source.{Source};
 ghost use Rattle.xif_sampler.specs.declared.fault.MapFault.{MapFault};
 ghost use Rattle.xif_sampler.specs.Places.{sources_of};
 ghost use Rattle.xif_sampler.specs.Samples.{samples_by, samples_of};
 ghost use Rattle.xif_sampler.specs.Keeping.{StandsFor};
-ghost use Rattle.xif_sampler.specs.Steps.{answer_to};
 
 use crate::fault::MapFail;
 use crate::place::SignalMap;
@@ -48,25 +46,10 @@ fn sample_all(
 {
     let mut samples = Vec::new(alloc);
     for item in items {
-        push(&mut samples, take(&mut sampler, item))?;
+        push(&mut samples, sampler.take(item))?;
     }
     push(&mut samples, sampler.finish())?;
     Ok(samples)
-}
-
-fn take(sampler: &mut Sampler, item: &Item) -> Option<Sample>
-    ensures stands { (sources : List Source) (h : List Item) → StandsFor sampler.old sources h →
-        StandsFor sampler.new sources (item.now ∷ h) }
-    ensures sample { (sources : List Source) (h : List Item) → StandsFor sampler.old sources h →
-        result ≡ answer_to sources h item.now }
-{
-    match item {
-        Item::Time(t) => sampler.time(*t),
-        Item::Change { code, digits } => {
-            sampler.change(*code, digits);
-            None
-        }
-    }
 }
 
 fn push(samples: &mut Vec<Sample>, sample: Option<Sample>) -> Result<(), AllocError>

@@ -8,7 +8,7 @@ ghost use Rattle.xif_sampler.specs.declared.fault.MapFault.{MapFault};
 ghost use Rattle.xif_sampler.specs.Places.{sources_of};
 ghost use Rattle.xif_sampler.specs.Samples.{is_number, sample_at, sample_by};
 ghost use Rattle.xif_sampler.specs.Keeping.{StandsFor};
-ghost use Rattle.xif_sampler.specs.Steps.{sample_between};
+ghost use Rattle.xif_sampler.specs.Steps.{answer_to, sample_between};
 
 use crate::fault::MapFail;
 use crate::find::find_sources;
@@ -17,7 +17,7 @@ use crate::place::SignalMap;
 use crate::source::{Readers, Source};
 use std::alloc::Global;
 use std::marker::Model;
-use vcd_text::{Declarations, Digits};
+use vcd_text::{Declarations, Digits, Item};
 use xif_base::Params;
 use xif_signals::{Quad, Sample, Signal};
 
@@ -109,6 +109,22 @@ impl Sampler {
         self.time = t;
         self.was = self.now;
         sample
+    }
+
+    /// Takes an item.
+    pub fn take(&mut self, item: &Item) -> Option<Sample>
+        ensures stands { (sources : List Source) (h : List Item) → StandsFor self.old sources h →
+            StandsFor self.new sources (item.now ∷ h) }
+        ensures sample { (sources : List Source) (h : List Item) → StandsFor self.old sources h →
+            result ≡ answer_to sources h item.now }
+    {
+        match item {
+            Item::Time(t) => self.time(*t),
+            Item::Change { code, digits } => {
+                self.change(*code, digits);
+                None
+            }
+        }
     }
 
     /// Ends the last instant: its sample, where the clock rises in it. To be called behind the last item.

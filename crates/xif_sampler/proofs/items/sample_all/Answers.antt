@@ -17,7 +17,7 @@ loop-item-preserved c =
     let next = reverse_more items i.item-index item (omega arith) c.item-item.is in
     record {
       stands = λ sources p.
-          let P : List Item → Type 0 = λ g. StandsFor c.take.new.sampler sources g in
+          let P : List Item → Type 0 = λ g. StandsFor c.take.new.self sources g in
           subst P (sym next) (c.take.ensures.stands sources h (i.invariant.stands sources p));
       so_far = λ sources p.
           c.in_ok-push.ensures

@@ -1,4 +1,4 @@
-use Rattle.xif_sampler.proofs.items.take.Goals as goal
+use Rattle.xif_sampler.proofs.sampler.Sampler.take.Goals as goal
 
 pub returns-in-Time-clause-stands : goal.returns-in-Time-clause-stands
 returns-in-Time-clause-stands c = λ sources h p. rw c.in-Time.is (c.time.ensures.stands sources h p)

@@ -1,0 +1,7 @@
+pub mod Newest
+pub mod Counts
+pub mod Taking
+pub mod Draining
+pub mod Waiting
+pub mod Feeding
+pub mod Ending
