@@ -14,7 +14,7 @@ use Rattle.xif_judge.proofs.Hart.{hart_holds}
 
 -- the tests of a rule against the first that fails
 
-abbrev passes : Bool × Channel → Type 0
+abbrev pub passes : Bool × Channel → Type 0
 passes test = IsTrue test.0
 
 cons_by : (b : Bool) (channel : Channel) (tests : List (Bool × Channel)) → (first_unknown tests ≡ None → All passes tests)
@@ -22,11 +22,11 @@ cons_by : (b : Bool) (channel : Channel) (tests : List (Bool × Channel)) → (f
 cons_by true channel tests rest e = All-cons passes (true, channel) tests refl (rest e)
 cons_by false channel tests rest e = absurd (cc)
 
-all_pass : (tests : List (Bool × Channel)) → first_unknown tests ≡ None → All passes tests
+pub all_pass : (tests : List (Bool × Channel)) → first_unknown tests ≡ None → All passes tests
 all_pass [] e = All-nil passes
 all_pass (test ∷ tests) e = cons_by test.0 test.1 tests (all_pass tests) e
 
-none_first : (tests : List (Bool × Channel)) → All passes tests → first_unknown tests ≡ None
+pub none_first : (tests : List (Bool × Channel)) → All passes tests → first_unknown tests ≡ None
 none_first [] all = refl
 none_first (test ∷ tests) all = rw (All-head passes test tests all) (none_first tests (All-tail passes test tests all))
 

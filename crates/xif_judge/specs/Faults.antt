@@ -1,10 +1,11 @@
 -- The fault of a cycle: the first rule that fails, in the order K1, K2, H1, and the first channel where it does.
-use Rattle.std.specs.Prelude.{Bool, not, cond, nat_lt, List, find, Option, Some, None, Result, Ok, Err}
+use Rattle.std.specs.Prelude.{◌≡◌, Bool, not, cond, nat_lt, List, find, Option, Some, None, IsSomeAnd, Result, Ok, Err}
 use Rattle.std.specs.Option.{option_map}
 use Rattle.xif_base.specs.declared.params.Params.{Params}
 use Rattle.xif_signals.specs.declared.sample.Quad.{Quad}
 use Rattle.xif_signals.specs.declared.bus.Bus.{Bus}
 use Rattle.xif_signals.specs.declared.rule.Channel.{Channel}
+use Rattle.xif_signals.specs.declared.rule.Rule.{Rule}
 use Rattle.xif_signals.specs.declared.rule.Rule.TheVariants.{H1}
 use Rattle.xif_signals.specs.declared.rule.Unknown.{Unknown}
 use Rattle.xif_signals.specs.declared.signal.Signal.TheVariants.{RstN}
@@ -37,3 +38,7 @@ fault_by params (Ok bus) = hart_fault params bus
 -- the fault of a cycle
 abbrev pub fault_now : Params → List Quad → Option Fault
 fault_now params sample = cond (is_in_session params sample) (fault_by params (known_of sample params)) None
+
+-- there is a fault, and it is this rule's
+abbrev pub Tells : Option Fault → Rule → Type 0
+Tells told rule = IsSomeAnd told (λ fault. fault.rule ≡ rule)

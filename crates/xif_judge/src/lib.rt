@@ -6,8 +6,8 @@
 //!
 //! The definitions stand in `specs/`: `Channels` (valid and key of each channel), `Rules` (what each rule asks
 //! of a cycle), `Faults` (the fault of a cycle), `Histories` (the first fault of a list of samples, and which
-//! lists are legal) and `Judging` (which history a judge stands for). `legal_law` and `hart_law` are the laws
-//! that faults are told exactly where rules fail.
+//! lists are legal) and `Judging` (which history a judge stands for). `legal_law`, `order_law` and
+//! `hart_law` are the laws that faults are told exactly where rules fail.
 #![tactic(auto)]
 
 mod hart_rule;
@@ -16,5 +16,5 @@ mod laws;
 mod verdict;
 
 pub use judge::Judge;
-pub use laws::{hart_law, legal_law};
+pub use laws::{hart_law, legal_law, order_law};
 pub use verdict::Verdict;
