@@ -53,7 +53,8 @@ impl Judge {
         })
     }
 
-    /// Judges the next cycle. The answer is the first fault so far, so after a fault it stays the same.
+    /// Judges the next cycle. The answer is the first fault so far, so after a fault it stays the same. It
+    /// takes no memory.
     pub fn step(&mut self, sample: &Sample) -> Result<(), Verdict>
         requires room { self.old.cycles < 2 ^ 64 - 1 }
         ensures count { self.new.cycles ≡ self.old.cycles + 1 }
