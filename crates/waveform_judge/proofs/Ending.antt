@@ -87,12 +87,12 @@ end_good old r s x y map params text (inr (inl (variables, (taken, g)))) closed 
 end_good old r s x y map params text (inr (inr (f, p))) closed fault declared alive small takes =
     let no = (fault f p.reader).0 in cc
 
-unfolding judged_of
 judged_read : (map : List Place) (params : Params) (text : List ℕ) (r : Reading) → reading_of text ≡ Ok r → judged_of map params text ≡ told (judged_in map params r.variables r.items)
+unfolding judged_of
 judged_read map params text r e = ap (judged_as map params) e
 
-unfolding judged_of
 judged_bad : (map : List Place) (params : Params) (text : List ℕ) (f : VcdFault) → reading_of text ≡ Err f → judged_of map params text ≡ Err (Vcd f)
+unfolding judged_of
 judged_bad map params text f e = ap (judged_as map params) e
 
 -- what the judge of the items tells is told of the text

@@ -7,6 +7,8 @@ mod base;
 #[cfg(test)]
 mod jobs;
 #[cfg(test)]
+mod judge;
+#[cfg(test)]
 mod maps;
 #[cfg(test)]
 mod pieces;

@@ -1,0 +1,4 @@
+pub mod Hart
+pub mod Now
+pub mod Order
+pub mod Firsts

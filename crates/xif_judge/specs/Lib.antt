@@ -1,0 +1,5 @@
+pub mod Channels
+pub mod Rules
+pub mod Faults
+pub mod Histories
+pub mod Judging
