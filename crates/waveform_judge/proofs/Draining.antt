@@ -1,5 +1,5 @@
 -- Items that are taken from a reader, one by one.
-use Rattle.std.proofs.Common.{◌≡◌, ◌∙◌, ◌+◌, ◌<◌, ◌≤◌, ◌^◌, ℕ, Bool, true, false, cond, List, [], ◌∷◌, ◌++◌, length, drop, Option, Some, None, refl, sym, ap, subst, append_assoc, arith}
+use Rattle.std.proofs.Common.{◌≡◌, ◌∙◌, ◌<◌, ◌≤◌, ◌^◌, Bool, true, false, cond, List, [], ◌∷◌, ◌++◌, length, drop, Some, None, refl, sym, ap, subst, append_assoc, arith}
 use Rattle.std.specs.Prelude.{slice_get}
 use Rattle.std.proofs.lemmas.List.{append-nil, length-append}
 use Rattle.xif_base.specs.declared.params.Params.{Params}
@@ -8,7 +8,7 @@ use Rattle.vcd_text.specs.declared.item.Item.{Item}
 use Rattle.vcd_text.specs.Reader as reader
 use Rattle.vcd_text.specs.Reader.{after_take}
 use Rattle.xif_sampler.specs.declared.place.Place.{Place}
-use Rattle.waveform_judge.specs.Standing.{ItemJudging, Took, drained}
+use Rattle.waveform_judge.specs.Standing.{ItemJudging, Took}
 
 -- these items are gone, and were taken
 abbrev pub Gone : reader.Progress → ItemJudging → List Item → ItemJudging → List Item → Type 0
@@ -39,10 +39,12 @@ pub gone_more : (start r : reader.Progress) (old x new : ItemJudging) (gone : Li
 gone_more start r old x new gone item p e takes =
     let rest = (after_take r).read.items in
     let queue : r.read.items ≡ item ∷ rest = front r.has_failed r.read.items item e in
-    let all : gone ++ item ∷ rest ≡ start.read.items = sym (ap (λ q. gone ++ q) queue) ∙ p.0 in
-    (append_assoc gone (item ∷ []) rest ∙ all, λ map params variables taken took few.
-    subst (λ l. Took new map params variables l) (append_assoc taken gone (item ∷ []))
-    (takes map params variables (taken ++ gone) (p.1 map params variables taken took few) (short start taken gone rest item all few)))
+    let all : gone ++ item ∷ rest ≡ start.read.items = sym (ap (λ q. gone ++ q) queue) ∙ p.0 in (
+      append_assoc gone (item ∷ []) rest ∙ all,
+      λ map params variables taken took few.
+          subst (λ l. Took new map params variables l) (append_assoc taken gone (item ∷ []))
+          (takes map params variables (taken ++ gone) (p.1 map params variables taken took few) (short start taken gone rest item all few)),
+    )
 
 nothing : (failed : Bool) (queue : List Item) → failed ≡ false → None ≡ cond failed None (slice_get queue 0) → queue ≡ []
 nothing true queue f e = cc

@@ -1,8 +1,6 @@
 -- What a judge of waveforms makes of the end of a text.
-use Rattle.std.proofs.Common.{◌≡◌, ◌∙◌, ◌+◌, ◌<◌, ◌≤◌, ◌^◌, ℕ, false, List, [], ◌∷◌, ◌++◌, length, Option, Some, None, Result, Ok, Err, refl, sym, ap, subst, arith, inl, inr}
-use Rattle.std.specs.Prelude.{OnOk}
+use Rattle.std.proofs.Common.{◌≡◌, ◌∙◌, ◌<◌, ◌≤◌, ◌^◌, ℕ, false, List, [], ◌∷◌, ◌++◌, length, Option, Some, None, Result, Ok, Err, refl, sym, ap, subst, arith, inl, inr}
 use Rattle.std.proofs.lemmas.List.{append-nil, length-append}
-use Rattle.xif_base.specs.declared.outside.NoMemory.{NoMemory}
 use Rattle.xif_base.specs.declared.params.Params.{Params}
 use Rattle.vcd_text.specs.declared.declaration.Variable.{Variable}
 use Rattle.vcd_text.specs.declared.fault.FeedFail.{FeedFail}
@@ -16,10 +14,9 @@ use Rattle.vcd_text.specs.Tokens.{ended}
 use Rattle.xif_sampler.specs.declared.fault.MapFault.{MapFault}
 use Rattle.xif_sampler.specs.declared.place.Place.{Place}
 use Rattle.waveform_judge.specs.declared.judged.Judged.{Judged}
-use Rattle.waveform_judge.specs.declared.judged.JudgeFail.{JudgeFail}
-use Rattle.waveform_judge.specs.declared.judged.JudgeFail.TheVariants.{Vcd, Map}
+use Rattle.waveform_judge.specs.declared.judged.JudgeFail.TheVariants.{Vcd}
 use Rattle.waveform_judge.specs.Judged.{judged_as, judged_in, judged_of, told, fail_of, IsFail}
-use Rattle.waveform_judge.specs.Standing.{ItemJudging, Took, Stands, variables_of, drained, judge_of}
+use Rattle.waveform_judge.specs.Standing.{ItemJudging, Took, Stands, variables_of, judge_of}
 use Rattle.waveform_judge.proofs.Counts.{items_few}
 use Rattle.waveform_judge.proofs.Feeding.{Answer, Stays, Takes}
 
@@ -64,23 +61,23 @@ pub end_good : (old r s : reader.Progress) (x y : ItemJudging) (map : List Place
 end_good old r s x y map params text (inl d) closed fault declared alive small takes =
     let c = closed text [] d.reader in
     let reading : Reading = record { variables = c.0; items = r.read.items } in
-    let few = few_read text reading c.1.1 (size_of old text (length text) (d.reader.run d.good).size refl small) in
+    let few = few_read text reading c.2 (size_of old text (length text) (d.reader.run d.good).size refl small) in
     record {
       reading = reading;
-      reads = c.1.1;
-      took = (takes.0.1 map params c.0 d.items (told_of r c.0 alive c.1.0) few).0;
+      reads = c.2;
+      took = (takes.0.1 map params c.0 d.items (told_of r c.0 alive c.1) few).0;
       few = few;
     }
 end_good old r s x y map params text (inr (inl (variables, (taken, g)))) closed fault declared alive small takes =
     let c = closed text taken g.reader in
     let some = declared variables g.some alive in
-    let same : c.0 ≡ variables = some_of r.read.variables c.0 variables c.1.0 some in
+    let same : c.0 ≡ variables = some_of r.read.variables c.0 variables c.1 some in
     let reading : Reading = record { variables = c.0; items = taken ++ r.read.items } in
-    let few = few_read text reading c.1.1 (size_of old text (length text) (g.reader.run g.good).size refl small) in
+    let few = few_read text reading c.2 (size_of old text (length text) (g.reader.run g.good).size refl small) in
     let took = (takes.1 map params variables taken g.items (told_of r variables alive some) few).0 in
     record {
       reading = reading;
-      reads = c.1.1;
+      reads = c.2;
       took = subst (λ (vs : List Variable). Took y map params vs (taken ++ r.read.items)) (sym same) took;
       few = few;
     }

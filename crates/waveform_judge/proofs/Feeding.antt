@@ -1,5 +1,5 @@
 -- What a judge of waveforms makes of a piece of a text.
-use Rattle.std.proofs.Common.{◌≡◌, ◌∙◌, ◌+◌, ◌<◌, ◌≤◌, ◌^◌, ℕ, false, List, [], ◌++◌, length, Option, Some, None, Result, Ok, Err, refl, sym, ap, subst, append_assoc, arith, inl, inr}
+use Rattle.std.proofs.Common.{◌≡◌, ◌∙◌, ◌<◌, ◌≤◌, ◌^◌, ℕ, false, List, [], ◌++◌, length, Option, Some, None, Result, Ok, Err, refl, sym, ap, subst, append_assoc, arith, inl, inr}
 use Rattle.std.specs.Prelude.{IsOk, OnOk}
 use Rattle.std.proofs.lemmas.List.{append-nil}
 use Rattle.std.proofs.lemmas.Result.{on_ok_weaker}
@@ -15,7 +15,7 @@ use Rattle.vcd_text.specs.Reading.{Read, read_so_far, reading_of}
 use Rattle.vcd_text.specs.Reader as reader
 use Rattle.vcd_text.proofs.Texts.{fault_of_front}
 use Rattle.xif_sampler.specs.declared.place.Place.{Place}
-use Rattle.waveform_judge.specs.Standing.{ItemJudging, Waits, Took, Declares, Goes, Fails, Stands, variables_of, drained, judge_of}
+use Rattle.waveform_judge.specs.Standing.{ItemJudging, Waits, Took, Declares, Goes, Stands, variables_of, drained, judge_of}
 use Rattle.waveform_judge.proofs.Counts.{items_few}
 
 -- what the reader answered to a piece
@@ -120,7 +120,10 @@ feed_bad old r x map params text piece answer f e (inl d) fed fault = fails r x 
 feed_bad old r x map params text piece answer f e (inr (inl (variables, (taken, g)))) fed fault = fails r x map params (text ++ piece) taken f (fed_bad old r piece text taken answer f e fed g.reader)
 feed_bad old r x map params text piece answer f e (inr (inr (g, p))) fed fault =
     let same = (fault g p.reader).1 in
-    inr (inr (g, record {
-      reader = subst (λ (y : reader.Progress). reader.IsFaulty y g) (sym same) p.reader;
-      always = λ more. ap reading_of (append_assoc text piece more) ∙ p.always (piece ++ more);
-    }))
+    inr (inr (
+      g,
+      record {
+        reader = subst (λ (y : reader.Progress). reader.IsFaulty y g) (sym same) p.reader;
+        always = λ more. ap reading_of (append_assoc text piece more) ∙ p.always (piece ++ more);
+      },
+    ))

@@ -5,3 +5,4 @@ pub mod Draining
 pub mod Waiting
 pub mod Feeding
 pub mod Ending
+pub mod Pieces

@@ -1,5 +1,5 @@
 -- What a judge of items makes of one item, and of the end.
-use Rattle.std.proofs.Common.{◌≡◌, ◌∙◌, ◌+◌, ◌-◌, ◌<◌, ◌≤◌, ◌^◌, ℕ, List, [], ◌∷◌, ◌++◌, length, reverse, Option, Result, Ok, Err, refl, sym, ap, subst, arith}
+use Rattle.std.proofs.Common.{◌≡◌, ◌∙◌, ◌-◌, ◌<◌, ◌≤◌, ◌^◌, ℕ, List, [], ◌∷◌, ◌++◌, length, reverse, Option, Result, Ok, Err, refl, sym, ap, subst, arith}
 use Rattle.std.specs.Option.{option_to_list}
 use Rattle.std.proofs.lemmas.List.{reverse-append, length-reverse}
 use Rattle.xif_base.specs.declared.params.Params.{Params}
@@ -13,7 +13,7 @@ use Rattle.xif_sampler.specs.Keeping.{Sampling, StandsFor}
 use Rattle.xif_sampler.specs.Samples.{sample_at, samples_by}
 use Rattle.xif_sampler.specs.Steps.{answer_to}
 use Rattle.waveform_judge.specs.declared.judged.Judged.{Judged}
-use Rattle.waveform_judge.specs.declared.signals.Signals.TheVariants.{Awaited, Found, Lost}
+use Rattle.waveform_judge.specs.declared.signals.Signals.TheVariants.{Awaited, Found}
 use Rattle.waveform_judge.specs.Judged.{judged_from, judged_in}
 use Rattle.waveform_judge.specs.Newest.{newest}
 use Rattle.vcd_text.specs.declared.declaration.Variable.{Variable}

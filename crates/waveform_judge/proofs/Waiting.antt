@@ -1,5 +1,5 @@
 -- Whether the signals are still to be found.
-use Rattle.std.proofs.Common.{◌≡◌, Bool, true, false, cond, List, Option, Some, None, Result, refl, sym, ap, subst}
+use Rattle.std.proofs.Common.{◌≡◌, Bool, true, false, cond, List, Option, Some, None, Result, refl}
 use Rattle.xif_base.specs.declared.params.Params.{Params}
 use Rattle.vcd_text.specs.declared.declaration.Variable.{Variable}
 use Rattle.vcd_text.specs.declared.item.Item.{Item}

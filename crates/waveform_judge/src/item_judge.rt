@@ -45,7 +45,11 @@ impl<'a> Model for ItemJudge<'a> {
 
 impl<'a> ItemJudge<'a> {
     /// Nothing was declared yet.
-    pub fn new(alloc: Global, map: &'a SignalMap, params: &Params) -> Result<ItemJudge<'a>, NoMemory>
+    pub fn new(
+        alloc: Global,
+        map: &'a SignalMap,
+        params: &Params,
+    ) -> Result<ItemJudge<'a>, NoMemory>
         requires { IsInRange params.now }
         ensures { IfOk result (λ judge. Waits judge map.now params.now) }
     {

@@ -14,7 +14,5 @@ mod judged;
 mod signals;
 mod waveform;
 
-
 pub use judged::{JudgeFail, Judged};
 pub use waveform::{WaveformJudge, judge_waveform};
-

@@ -72,9 +72,9 @@ impl<'a> WaveformJudge<'a> {
     /// Ends the text.
     pub fn finish(self) -> Result<Judged, JudgeFail>
         requires { self.reader.size < 2 ^ 32 }
-        ensures judged { (map : List Place) (params : Params) (text : List ℕ) → Stands self map params text
+        ensures judged { (map : List Place) (params : Params) (text : List ℕ) → Stands self.entry map params text
             → IfOk result (λ judged. judged_of map params text ≡ Ok judged) }
-        ensures fail { (map : List Place) (params : Params) (text : List ℕ) → Stands self map params text
+        ensures fail { (map : List Place) (params : Params) (text : List ℕ) → Stands self.entry map params text
             → IfErr result (IsFail (judged_of map params text)) }
     {
         let mut reader = self.reader;

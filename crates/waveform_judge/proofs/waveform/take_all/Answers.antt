@@ -14,6 +14,6 @@ loop-item-preserved c =
     let P : reader.Progress → Type 0 = λ r. (gone : List Item) × Gone start c.args.items.now r.read.items new gone in
     record {
       gone = subst P (sym c.take.ensures.rest)
-      (gone ++ item ∷ [], gone_more start i.reader c.args.items.now i.items new gone item i.invariant.gone.1 (sym c.in-Some.is ∙ c.take.ensures.item) c.take_one.ensures);
+          (gone ++ item ∷ [], gone_more start i.reader c.args.items.now i.items new gone item i.invariant.gone.1 (sym c.in-Some.is ∙ c.take.ensures.item) c.take_one.ensures);
       reader = same_more start i.reader c.take.new.self i.invariant.reader c.take.ensures.rest;
     }

@@ -1,5 +1,5 @@
 use Rattle.std.proofs.Common.{◌≡◌, ◌∙◌, [], sym, subst, true, false}
-use Rattle.waveform_judge.specs.Standing.{ItemJudging, Took, is_waiting}
+use Rattle.waveform_judge.specs.Standing.{ItemJudging, Took}
 use Rattle.waveform_judge.proofs.Waiting.{alive, took_not}
 use Rattle.waveform_judge.proofs.waveform.take_items.Goals as goal
 

@@ -1,4 +1,4 @@
-use Rattle.std.proofs.Common.{◌∙◌, sym, ap, subst}
+use Rattle.std.proofs.Common.{sym, subst}
 use Rattle.waveform_judge.specs.Standing.{ItemJudging, Took}
 use Rattle.waveform_judge.proofs.Taking.{took_item}
 use Rattle.waveform_judge.proofs.item_judge.ItemJudge.take.Goals as goal
