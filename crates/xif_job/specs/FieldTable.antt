@@ -1,5 +1,6 @@
 -- The fields of a job file: a line for each, in the order in which they are read, with its range and its default. The order
--- of the lines is the order in which faults are told. A default is None where the field is needed.
+-- of the lines is the order in which faults are told. A default is None where the field is needed. The signals have one line
+-- for all, over their own table.
 use Rattle.std.specs.Prelude.{◌+◌, ◌-◌, ◌^◌, ◌==◌, ◌||◌, ℕ, Bool, true, false, not, cond, List, [], ◌∷◌, map, Option, Some, None, is_some, Result, Ok, Err, nat_le, min, codes}
 use Rattle.toml.specs.Data.{Data, string, integer, Members, get_member}
 use Rattle.xif_base.specs.Checks.{first_fault}
@@ -180,7 +181,8 @@ unit_in d = do
 unfoldable pub units_of : Members → Result (List UnitTable) JobFault
 units_of top = array_in fields.Unit (get_member (codes "unit") top) >>= each unit_in
 
--- bits of a variable, by a table; a value of another kind is none
+-- Bits of a variable, by a table. The name may be empty, and `high` may be below `low`: whether a waveform has such bits is
+-- told only where one is read.
 unfoldable pub bits_in : Signal → Data → Result Place JobFault
 bits_in s d = do
   t ← table_in (fields.Map s) (codes "var" ∷ codes "low" ∷ codes "high" ∷ []) (Some d)
@@ -189,14 +191,14 @@ bits_in s d = do
   high ← optional_in (fields.Map s) 0 1048575 (get_member (codes "high") t)
   Ok (places.Variable name low high)
 
--- a constant, which the signal's bits hold; the clock has none
+-- a constant that the signal's bits hold; the clock has none, since it has to rise
 unfoldable pub constant_in : Params → Signal → Data → Result Place JobFault
 constant_in p s d = do
   _ ← unless (not (number_of s == number_of Clk)) (WrongKind (fields.Map s))
   value ← number_in (fields.Map s) 0 (2 ^ width_of s p - 1) None (Some d)
   Ok (places.Constant value)
 
--- the place of a signal, by what stands at its name
+-- the place of a signal, by what stands at its name; what is neither text nor integer has to be a table
 abbrev pub place_in : Params → Signal → Option Data → Result Place JobFault
 place_in p s None = Ok places.Default
 place_in p s (Some (string name)) = Ok (places.Variable name 0 None)

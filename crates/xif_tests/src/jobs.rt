@@ -84,26 +84,71 @@ const FAULTS: [(&str, JobFault); 20] = [
 const MAP_FAULTS: [(&str, JobFault); 20] = [
     ("map = []", JobFault::WrongKind(Field::Map(Signal::Clk))),
     ("[map]\nsurplus = 1\nclk = 1", JobFault::UnknownField),
-    ("[map]\nclk = 0", JobFault::WrongKind(Field::Map(Signal::Clk))),
-    ("[map]\nclk = -1", JobFault::WrongKind(Field::Map(Signal::Clk))),
-    ("[map]\nrst_n = true", JobFault::WrongKind(Field::Map(Signal::RstN))),
-    ("[map]\nrst_n = 2", JobFault::OutOfRange(Field::Map(Signal::RstN))),
-    ("[map]\nissue_id = 8", JobFault::OutOfRange(Field::Map(Signal::IssueId))),
-    ("[map]\nregister_rs2 = 1", JobFault::OutOfRange(Field::Map(Signal::RegisterRs2))),
-    ("[map]\nresult_data = 4294967296", JobFault::OutOfRange(Field::Map(Signal::ResultData))),
+    (
+        "[map]\nclk = 0",
+        JobFault::WrongKind(Field::Map(Signal::Clk)),
+    ),
+    (
+        "[map]\nclk = -1",
+        JobFault::WrongKind(Field::Map(Signal::Clk)),
+    ),
+    (
+        "[map]\nrst_n = true",
+        JobFault::WrongKind(Field::Map(Signal::RstN)),
+    ),
+    (
+        "[map]\nrst_n = 2",
+        JobFault::OutOfRange(Field::Map(Signal::RstN)),
+    ),
+    (
+        "[map]\nissue_id = 8",
+        JobFault::OutOfRange(Field::Map(Signal::IssueId)),
+    ),
+    (
+        "[map]\nregister_rs2 = 1",
+        JobFault::OutOfRange(Field::Map(Signal::RegisterRs2)),
+    ),
+    (
+        "[map]\nresult_data = 4294967296",
+        JobFault::OutOfRange(Field::Map(Signal::ResultData)),
+    ),
     (
         "[map]\nresult_data = -1\n[params]\nx_rfw_width = 64",
         JobFault::OutOfRange(Field::Map(Signal::ResultData)),
     ),
-    ("[map]\nresult_we = 2\nresult_rd = 32", JobFault::OutOfRange(Field::Map(Signal::ResultRd))),
+    (
+        "[map]\nresult_we = 2\nresult_rd = 32",
+        JobFault::OutOfRange(Field::Map(Signal::ResultRd)),
+    ),
     ("[map.clk]\nvar = 1\nindex = 1", JobFault::UnknownField),
-    ("[map.clk]\nlow = true", JobFault::MissingField(Field::Map(Signal::Clk))),
-    ("[map.clk]\nvar = 1\nlow = -1", JobFault::WrongKind(Field::Map(Signal::Clk))),
-    ("[map.clk]\nvar = \"\"\nhigh = -1\nlow = \"0\"", JobFault::WrongKind(Field::Map(Signal::Clk))),
-    ("[map.clk]\nvar = \"\"\nlow = 1048576", JobFault::OutOfRange(Field::Map(Signal::Clk))),
-    ("[map.clk]\nvar = \"\"\nhigh = false", JobFault::WrongKind(Field::Map(Signal::Clk))),
-    ("[map.clk]\nvar = \"\"\nhigh = 1048576", JobFault::OutOfRange(Field::Map(Signal::Clk))),
-    ("[image]\nfile = \"trace.log\"\n[map]\nclk = 1", JobFault::OutOfRange(Field::TraceLog)),
+    (
+        "[map.clk]\nlow = true",
+        JobFault::MissingField(Field::Map(Signal::Clk)),
+    ),
+    (
+        "[map.clk]\nvar = 1\nlow = -1",
+        JobFault::WrongKind(Field::Map(Signal::Clk)),
+    ),
+    (
+        "[map.clk]\nvar = \"\"\nhigh = -1\nlow = \"0\"",
+        JobFault::WrongKind(Field::Map(Signal::Clk)),
+    ),
+    (
+        "[map.clk]\nvar = \"\"\nlow = 1048576",
+        JobFault::OutOfRange(Field::Map(Signal::Clk)),
+    ),
+    (
+        "[map.clk]\nvar = \"\"\nhigh = false",
+        JobFault::WrongKind(Field::Map(Signal::Clk)),
+    ),
+    (
+        "[map.clk]\nvar = \"\"\nhigh = 1048576",
+        JobFault::OutOfRange(Field::Map(Signal::Clk)),
+    ),
+    (
+        "[image]\nfile = \"trace.log\"\n[map]\nclk = 1",
+        JobFault::OutOfRange(Field::TraceLog),
+    ),
     (
         "[map]\nclk = 1\n[[unit]]\n[[unit.entry]]\nmask = 1\nmatch = 3\nop = \"ones\"",
         JobFault::WrongKind(Field::Map(Signal::Clk)),
@@ -242,7 +287,10 @@ const PLACES: [(Signal, Spot); 7] = [
     (Signal::Clk, Spot::Named("top.clk", 0, None)),
     (Signal::RstN, Spot::Left),
     (Signal::IssueId, Spot::Number(7)),
-    (Signal::IssueInstr, Spot::Named("top.instr", 1_048_575, Some(0))),
+    (
+        Signal::IssueInstr,
+        Spot::Named("top.instr", 1_048_575, Some(0)),
+    ),
     (Signal::RegisterRs2, Spot::Number(0)),
     (Signal::ResultData, Spot::Number(9_223_372_036_854_775_807)),
     (Signal::ResultWe, Spot::Named("", 0, None)),
