@@ -1,7 +1,8 @@
 -- The names of the fields of a job file.
-use Rattle.std.specs.Prelude.{ℕ, List, codes}
+use Rattle.std.specs.Prelude.{ℕ, List, ◌++◌, codes}
 use Rattle.xif_base.specs.declared.params.ParamFault.{ParamFault}
 use Rattle.xif_base.specs.declared.params.ParamFault.TheVariants as params
+use Rattle.xif_signals.specs.Signal.{name_of}
 use Rattle.xif_job.specs.declared.field.Field.{Field}
 use Rattle.xif_job.specs.declared.field.Field.TheVariants as fields
 
@@ -38,6 +39,7 @@ dotted fields.UnitEntryLow = codes "unit.entry.low"
 dotted fields.UnitEntryLen = codes "unit.entry.len"
 dotted fields.TraceVcd = codes "trace.vcd"
 dotted fields.TraceLog = codes "trace.log"
+dotted (fields.Map s) = codes "map." ++ name_of s
 
 -- the field of a parameter that is out of its range
 abbrev pub param_field : ParamFault → Field

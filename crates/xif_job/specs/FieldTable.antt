@@ -1,7 +1,8 @@
 -- The fields of a job file: a line for each, in the order in which they are read, with its range and its default. The order
--- of the lines is the order in which faults are told. A default is None where the field is needed.
-use Rattle.std.specs.Prelude.{◌+◌, ◌-◌, ◌^◌, ◌||◌, ℕ, Bool, true, false, not, cond, List, [], ◌∷◌, Option, Some, None, is_some, Result, Ok, Err, nat_le, min, codes}
-use Rattle.toml.specs.Data.{Data, Members, get_member}
+-- of the lines is the order in which faults are told. A default is None where the field is needed. The signals have one line
+-- for all, over their own table.
+use Rattle.std.specs.Prelude.{◌+◌, ◌-◌, ◌^◌, ◌==◌, ◌||◌, ℕ, Bool, true, false, not, cond, List, [], ◌∷◌, map, Option, Some, None, is_some, Result, Ok, Err, nat_le, min, codes}
+use Rattle.toml.specs.Data.{Data, string, integer, Members, get_member}
 use Rattle.xif_base.specs.Checks.{first_fault}
 use Rattle.xif_base.specs.Params.{ranges}
 use Rattle.xif_base.specs.declared.params.ParamFault.{ParamFault}
@@ -11,10 +12,15 @@ use Rattle.coproc_config.specs.declared.check.SetFault.{SetFault}
 use Rattle.coproc_config.specs.declared.operation.Entry.{Entry}
 use Rattle.coproc_config.specs.declared.operation.Op.{Op}
 use Rattle.coproc_config.specs.declared.operation.Op.TheVariants as ops
+use Rattle.xif_signals.specs.Signal.{signals, number_of, name_of, width_of}
+use Rattle.xif_signals.specs.declared.signal.Signal.{Signal}
+use Rattle.xif_signals.specs.declared.signal.Signal.TheVariants.{Clk}
+use Rattle.xif_sampler.specs.declared.place.Place.{Place}
+use Rattle.xif_sampler.specs.declared.place.Place.TheVariants as places
 use Rattle.xif_job.specs.Field.{param_field}
 use Rattle.xif_job.specs.declared.field.Field.TheVariants as fields
 use Rattle.xif_job.specs.declared.field.JobFault.{JobFault}
-use Rattle.xif_job.specs.declared.field.JobFault.TheVariants.{NotToml, OutOfRange, UnknownField, Unbuilt}
+use Rattle.xif_job.specs.declared.field.JobFault.TheVariants.{NotToml, WrongKind, OutOfRange, UnknownField, Unbuilt}
 use Rattle.xif_job.specs.declared.field.JobFault.TheVariants as faults
 use Rattle.xif_job.specs.declared.memory.MemoryRange.{MemoryRange}
 use Rattle.xif_job.specs.declared.image.Image.{Image}
@@ -31,7 +37,7 @@ use Rattle.std.specs.Str.{bytes_eq}
 use Rattle.xif_job.specs.Document.{document_of}
 use Rattle.xif_job.specs.declared.job.Job.{Job}
 use Rattle.xif_job.specs.Outcome.{◌>>=◌, unless}
-use Rattle.xif_job.specs.Readers.{demand, number_in, word_in, port_width_in, flag_in, text_in, choice_in, numbers_in, each, array_in, are_known, table_in}
+use Rattle.xif_job.specs.Readers.{demand, number_in, word_in, optional_in, port_width_in, flag_in, text_in, any_text_in, choice_in, numbers_in, each, array_in, are_known, table_in}
 
 abbrev pub params_names : List (List ℕ)
 params_names =
@@ -175,6 +181,41 @@ unit_in d = do
 unfoldable pub units_of : Members → Result (List UnitTable) JobFault
 units_of top = array_in fields.Unit (get_member (codes "unit") top) >>= each unit_in
 
+-- Bits of a variable, by a table. The name may be empty, and `high` may be below `low`: whether a waveform has such bits is
+-- told only where one is read.
+unfoldable pub bits_in : Signal → Data → Result Place JobFault
+bits_in s d = do
+  t ← table_in (fields.Map s) (codes "var" ∷ codes "low" ∷ codes "high" ∷ []) (Some d)
+  name ← any_text_in (fields.Map s) (get_member (codes "var") t)
+  low ← number_in (fields.Map s) 0 1048575 (Some 0) (get_member (codes "low") t)
+  high ← optional_in (fields.Map s) 0 1048575 (get_member (codes "high") t)
+  Ok (places.Variable name low high)
+
+-- a constant that the signal's bits hold; the clock has none, since it has to rise
+unfoldable pub constant_in : Params → Signal → Data → Result Place JobFault
+constant_in p s d = do
+  _ ← unless (not (number_of s == number_of Clk)) (WrongKind (fields.Map s))
+  value ← number_in (fields.Map s) 0 (2 ^ width_of s p - 1) None (Some d)
+  Ok (places.Constant value)
+
+-- the place of a signal, by what stands at its name; what is neither text nor integer has to be a table
+abbrev pub place_in : Params → Signal → Option Data → Result Place JobFault
+place_in p s None = Ok places.Default
+place_in p s (Some (string name)) = Ok (places.Variable name 0 None)
+place_in p s (Some (integer z)) = constant_in p s (integer z)
+place_in p s (Some d) = bits_in s d
+
+-- the places of signals, each read in its turn
+abbrev pub places_in : Params → Members → List Signal → Result (List Place) JobFault
+places_in p t [] = Ok []
+places_in p t (s ∷ ss) = place_in p s (get_member (name_of s) t) >>= λ x. places_in p t ss >>= λ xs. Ok (x ∷ xs)
+
+-- the places of all signals, in the order of their table
+unfoldable pub map_of : Params → Members → Result (List Place) JobFault
+map_of p top = do
+  t ← table_in (fields.Map Clk) (map name_of signals) (get_member (codes "map") top)
+  places_in p t signals
+
 -- the first fault of the units as a set
 abbrev pub lawful : Result Unit SetFault → Result Unit JobFault
 lawful (Ok _) = Ok tt
@@ -195,6 +236,7 @@ job_of needs_image top = do
   core ← core_of params.id_width top
   set ← units_of top
   _ ← differ image.source.file
+  map ← map_of params top
   _ ← lawful (first_fault (checks set))
   Ok (record {
     params = params;
@@ -208,15 +250,16 @@ job_of needs_image top = do
     set = set;
     trace = codes "trace.vcd";
     log = codes "trace.log";
+    map = map;
   })
 
 -- a table at the top level is one that is not read yet
 abbrev pub is_unbuilt : Members → Bool
 is_unbuilt top =
-    is_some (get_member (codes "script") top) || is_some (get_member (codes "trace") top) || is_some (get_member (codes "map") top)
+    is_some (get_member (codes "script") top) || is_some (get_member (codes "trace") top)
 
 abbrev pub table_names : List (List ℕ)
-table_names = codes "params" ∷ codes "memory" ∷ codes "image" ∷ codes "core" ∷ codes "unit" ∷ []
+table_names = codes "params" ∷ codes "memory" ∷ codes "image" ∷ codes "core" ∷ codes "unit" ∷ codes "map" ∷ []
 
 abbrev pub all_of : Bool → Members → Result Job JobFault
 all_of needs_image top = do

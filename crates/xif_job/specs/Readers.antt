@@ -7,7 +7,7 @@ use Rattle.toml.specs.Data.{Data, integer, Items, no_items, item, Members, no_me
 use Rattle.xif_base.specs.Params.{within}
 use Rattle.xif_job.specs.declared.field.Field.{Field}
 use Rattle.xif_job.specs.declared.field.JobFault.{JobFault}
-use Rattle.xif_job.specs.declared.field.JobFault.TheVariants.{WrongKind, OutOfRange, UnknownField}
+use Rattle.xif_job.specs.declared.field.JobFault.TheVariants.{MissingField, WrongKind, OutOfRange, UnknownField}
 use Rattle.xif_job.specs.Outcome.{◌>>=◌, unless, default}
 
 -- a test of a value, which is out of its field's range where it fails
@@ -29,6 +29,11 @@ number_in field low high absent (Some _) = Err (WrongKind field)
 abbrev pub word_in : Field → ℕ → ℕ → Option ℕ → Option Data → Result ℕ JobFault
 word_in field low high absent found = number_in field low high absent found >>= λ n. demand field (n % 4 == 0) >>= λ _. Ok n
 
+-- such an integer, or none
+abbrev pub optional_in : Field → ℕ → ℕ → Option Data → Result (Option ℕ) JobFault
+optional_in field low high None = Ok None
+optional_in field low high (Some d) = number_in field low high None (Some d) >>= λ n. Ok (Some n)
+
 -- the bits of a port, 32 or 64
 abbrev pub port_width_in : Field → Option Data → Result ℕ JobFault
 port_width_in field found = number_in field 32 64 (Some 32) found >>= λ n. demand field ((n == 32) || (n == 64)) >>= λ _. Ok n
@@ -41,6 +46,10 @@ flag_in field absent found = number_in field 0 1 (Some (cond absent 1 0)) found 
 abbrev pub text_in : Field → Option (List ℕ) → Option Data → Result (List ℕ) JobFault
 text_in field absent None = default field absent
 text_in field absent (Some d) = of_kind field (as_str d) >>= λ text. demand field (nat_lt 0 (length text)) >>= λ _. Ok text
+
+-- a text, which may be empty
+abbrev pub any_text_in : Field → Option Data → Result (List ℕ) JobFault
+any_text_in field found = ok_or found (MissingField field) >>= λ d. of_kind field (as_str d)
 
 -- what a text names
 abbrev pub meaning : {A : Type 0} → List (List ℕ × A) → List ℕ → Option A

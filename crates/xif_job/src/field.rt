@@ -1,10 +1,12 @@
 // The fields of a job file, and what is wrong with one.
-ghost use Rattle.std.specs.Prelude.{◌≡◌};
+ghost use Rattle.std.specs.Prelude.{◌≡◌, ◌++◌, codes};
+ghost use Rattle.xif_signals.specs.Signal.{name_of};
 ghost use Rattle.xif_job.specs.Field.{dotted, param_field};
 
 use coproc_config::SetFault;
 use std::alloc::{AllocError, AllocFailed};
 use xif_base::{NoMemory, ParamFault};
+use xif_signals::Signal;
 
 /// A field of a job file. An array of tables is a field too.
 #[derive(Clone, Copy, Debug, PartialEq, Eq)]
@@ -40,6 +42,8 @@ pub enum Field {
     UnitEntryLen,
     TraceVcd,
     TraceLog,
+    /// The place of a signal.
+    Map(Signal),
 }
 
 /// What is wrong with a job file.
@@ -59,7 +63,7 @@ pub enum JobFault {
     Set(SetFault),
     /// There was no memory left.
     NoMemory,
-    /// The job has a table that is not read yet: `script`, `trace` or `map`.
+    /// The job has a table that is not read yet: `script` or `trace`.
     Unbuilt,
 }
 
@@ -133,7 +137,46 @@ impl Field {
             Field::UnitEntryLen => "unit.entry.len",
             Field::TraceVcd => "trace.vcd",
             Field::TraceLog => "trace.log",
+            Field::Map(signal) => map_name(*signal),
         }
+    }
+}
+
+/// The name of a signal behind that of its table. A text that lives for good is not put together from
+/// two, so each stands here whole.
+fn map_name(signal: Signal) -> &'static str
+    ensures { result.now ≡ codes "map." ++ name_of signal }
+{
+    match signal {
+        Signal::Clk => "map.clk",
+        Signal::RstN => "map.rst_n",
+        Signal::IssueValid => "map.issue_valid",
+        Signal::IssueReady => "map.issue_ready",
+        Signal::IssueHartid => "map.issue_hartid",
+        Signal::IssueId => "map.issue_id",
+        Signal::IssueInstr => "map.issue_instr",
+        Signal::IssueAccept => "map.issue_accept",
+        Signal::IssueWriteback => "map.issue_writeback",
+        Signal::IssueRegisterRead => "map.issue_register_read",
+        Signal::RegisterValid => "map.register_valid",
+        Signal::RegisterReady => "map.register_ready",
+        Signal::RegisterHartid => "map.register_hartid",
+        Signal::RegisterId => "map.register_id",
+        Signal::RegisterRs0 => "map.register_rs0",
+        Signal::RegisterRs1 => "map.register_rs1",
+        Signal::RegisterRs2 => "map.register_rs2",
+        Signal::RegisterRsValid => "map.register_rs_valid",
+        Signal::CommitValid => "map.commit_valid",
+        Signal::CommitHartid => "map.commit_hartid",
+        Signal::CommitId => "map.commit_id",
+        Signal::CommitKill => "map.commit_kill",
+        Signal::ResultValid => "map.result_valid",
+        Signal::ResultReady => "map.result_ready",
+        Signal::ResultHartid => "map.result_hartid",
+        Signal::ResultId => "map.result_id",
+        Signal::ResultData => "map.result_data",
+        Signal::ResultRd => "map.result_rd",
+        Signal::ResultWe => "map.result_we",
     }
 }
 

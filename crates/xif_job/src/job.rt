@@ -11,6 +11,7 @@ ghost use Rattle.xif_job.specs.Ranges.{IsLawfulMemory, IsLawfulWindow, IsLawfulB
 use crate::core_table::{Kind, read_core};
 use crate::document::document;
 use crate::image::{ImageSource, read_image};
+use crate::map::read_map;
 use crate::memory::read_memory;
 use crate::params::read_params;
 use crate::readers::{demand, find, has_only};
@@ -20,6 +21,7 @@ use coproc_config::Set;
 use std::alloc::Global;
 use toml::Table;
 use xif_base::{Name, Params};
+use xif_sampler::SignalMap;
 
 /// What a job file says.
 #[derive(Debug, Drop)]
@@ -44,6 +46,8 @@ pub struct Job {
     pub trace: Name,
     /// The name of the log's file.
     pub log: Name,
+    /// Where the signals are found in a waveform.
+    pub map: SignalMap,
 }
 
 impl Job {
@@ -78,7 +82,7 @@ fn read_all(alloc: Global, top: &Table, needs_image: bool) -> Result<Job, JobFau
     if has_unbuilt(top) {
         return Err(JobFault::Unbuilt);
     }
-    if !has_only(top, &["params", "memory", "image", "core", "unit"]) {
+    if !has_only(top, &["params", "memory", "image", "core", "unit", "map"]) {
         return Err(JobFault::UnknownField);
     }
     read_job(alloc, top, needs_image)
@@ -88,9 +92,7 @@ fn read_all(alloc: Global, top: &Table, needs_image: bool) -> Result<Job, JobFau
 fn has_unbuilt(top: &Table) -> bool
     ensures { result ≡ is_unbuilt (table_view top.now) }
 {
-    find(Some(top), "script").is_some()
-        || find(Some(top), "trace").is_some()
-        || find(Some(top), "map").is_some()
+    find(Some(top), "script").is_some() || find(Some(top), "trace").is_some()
 }
 
 #[tactic(auto, unfolding(crate::specs::FieldTable::job_of))]
@@ -109,6 +111,7 @@ fn read_job(alloc: Global, top: &Table, needs_image: bool) -> Result<Job, JobFau
     let core = read_core(alloc, top, params.id_width)?;
     let set = read_units(alloc, top)?;
     check_names(&image.source.file)?;
+    let map = read_map(alloc, top, &params)?;
     check_set(&set)?;
     let trace = Name::of(alloc, "trace.vcd")?;
     let log = Name::of(alloc, "trace.log")?;
@@ -124,6 +127,7 @@ fn read_job(alloc: Global, top: &Table, needs_image: bool) -> Result<Job, JobFau
         set,
         trace,
         log,
+        map,
     })
 }
 

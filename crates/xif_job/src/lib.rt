@@ -3,8 +3,8 @@
 //! The layers above may use `Job::read`, which gives a job from the bytes of its file or the first
 //! fault in the order of the fields, the types that a `Job` is made of, and `Field::name` for the name
 //! of the field that a fault is told at. The parameters of a job that was read are in their ranges,
-//! and its units are a lawful set. The tables `script`, `trace` and `map` are not read yet: a job that
-//! has one is answered `Unbuilt`.
+//! and its units are a lawful set. The tables `script` and `trace` are not read yet: a job that has one
+//! is answered `Unbuilt`.
 //!
 //! The definitions stand in `specs/`: `FieldTable` has a line for each field, with its range and its
 //! default, in the order in which faults are told, and what a job file says as a whole (`read_of`);
@@ -18,6 +18,7 @@ mod document;
 mod field;
 mod image;
 mod job;
+mod map;
 mod memory;
 mod params;
 mod readers;

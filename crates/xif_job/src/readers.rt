@@ -7,7 +7,7 @@ ghost use Rattle.toml.specs.View.{table_view, items_view, view};
 ghost use Rattle.toml.specs.Data.{get_member, as_integer};
 ghost use Rattle.xif_base.specs.Params.{within};
 ghost use Rattle.xif_job.specs.Outcome.{Gives};
-ghost use Rattle.xif_job.specs.Readers.{demand as demanded, number_in, word_in, port_width_in, flag_in, text_in, choice_in, meaning, numbers_in, numbers_among_in, are_integers as all_integers, count, each, array_in, are_known, table_in};
+ghost use Rattle.xif_job.specs.Readers.{demand as demanded, number_in, word_in, optional_in, port_width_in, flag_in, text_in, any_text_in, choice_in, meaning, numbers_in, numbers_among_in, are_integers as all_integers, count, each, array_in, are_known, table_in};
 ghost use Rattle.xif_job.specs.Tables.{members};
 
 use crate::{Field, JobFault};
@@ -104,6 +104,36 @@ pub(crate) fn number_u8(
     Ok(number as u8)
 }
 
+/// An integer from `low` to `high`, or none where nothing stands.
+pub(crate) fn optional(
+    field: Field,
+    low: u32,
+    high: u32,
+    value: Option<&Value>,
+) -> Result<Option<u32>, JobFault>
+    ensures { result ≡ optional_in field low high (option_map (λ v. view v.now) value.entry) }
+{
+    if value.is_none() {
+        return Ok(None);
+    }
+    let number = number(field, low, high, None, value)?;
+    Ok(Some(number))
+}
+
+/// An integer from 0 to `high`, which may need more than 32 bits.
+pub(crate) fn number_u64(field: Field, high: u64, value: &Value) -> Result<u64, JobFault>
+    ensures { result ≡ number_in field 0 high None (Some (view value.now)) }
+{
+    let Some(number) = value.as_integer() else {
+        return Err(JobFault::WrongKind(field));
+    };
+    if number >= 0 && number as u64 <= high {
+        Ok(number as u64)
+    } else {
+        Err(JobFault::OutOfRange(field))
+    }
+}
+
 /// The bits of a port: 32, which they are where nothing stands, or 64.
 pub(crate) fn port_width(field: Field, value: Option<&Value>) -> Result<u8, JobFault>
     ensures { result ≡ port_width_in field (option_map (λ v. view v.now) value.entry) }
@@ -154,6 +184,19 @@ fn chosen_text<'a>(
         return Err(JobFault::OutOfRange(field));
     }
     Ok(text)
+}
+
+/// A text that is needed, and may be empty.
+pub(crate) fn any_text(alloc: Global, field: Field, value: Option<&Value>) -> Result<Name, JobFault>
+    ensures { Gives (λ n. n) result (any_text_in field (option_map (λ v. view v.now) value.entry)) }
+{
+    let Some(value) = value else {
+        return Err(JobFault::MissingField(field));
+    };
+    let Some(text) = value.as_str() else {
+        return Err(JobFault::WrongKind(field));
+    };
+    Ok(Name::of(alloc, text)?)
 }
 
 /// What a text names, of these names. Where nothing stands it is `absent`, or is missing.

@@ -1,9 +1,12 @@
 // Texts of job files, with the fault of each, or with what is in the job. The outcomes are those of an
 // independent model of the format.
+use crate::maps::Spot;
 use coproc_config::{Entry, Op, SetCause, SetFault};
 use std::test::Fail;
 use xif_base::Params;
 use xif_job::{Addresses, Field, ImageKind, Job, JobFault, Kind};
+use xif_sampler::Place;
+use xif_signals::Signal;
 
 const BAD_MASK: SetFault = SetFault {
     cause: SetCause::BadMask,
@@ -77,6 +80,81 @@ const FAULTS: [(&str, JobFault); 20] = [
     ),
 ];
 
+// The same for the places of signals.
+const MAP_FAULTS: [(&str, JobFault); 20] = [
+    ("map = []", JobFault::WrongKind(Field::Map(Signal::Clk))),
+    ("[map]\nsurplus = 1\nclk = 1", JobFault::UnknownField),
+    (
+        "[map]\nclk = 0",
+        JobFault::WrongKind(Field::Map(Signal::Clk)),
+    ),
+    (
+        "[map]\nclk = -1",
+        JobFault::WrongKind(Field::Map(Signal::Clk)),
+    ),
+    (
+        "[map]\nrst_n = true",
+        JobFault::WrongKind(Field::Map(Signal::RstN)),
+    ),
+    (
+        "[map]\nrst_n = 2",
+        JobFault::OutOfRange(Field::Map(Signal::RstN)),
+    ),
+    (
+        "[map]\nissue_id = 8",
+        JobFault::OutOfRange(Field::Map(Signal::IssueId)),
+    ),
+    (
+        "[map]\nregister_rs2 = 1",
+        JobFault::OutOfRange(Field::Map(Signal::RegisterRs2)),
+    ),
+    (
+        "[map]\nresult_data = 4294967296",
+        JobFault::OutOfRange(Field::Map(Signal::ResultData)),
+    ),
+    (
+        "[map]\nresult_data = -1\n[params]\nx_rfw_width = 64",
+        JobFault::OutOfRange(Field::Map(Signal::ResultData)),
+    ),
+    (
+        "[map]\nresult_we = 2\nresult_rd = 32",
+        JobFault::OutOfRange(Field::Map(Signal::ResultRd)),
+    ),
+    ("[map.clk]\nvar = 1\nindex = 1", JobFault::UnknownField),
+    (
+        "[map.clk]\nlow = true",
+        JobFault::MissingField(Field::Map(Signal::Clk)),
+    ),
+    (
+        "[map.clk]\nvar = 1\nlow = -1",
+        JobFault::WrongKind(Field::Map(Signal::Clk)),
+    ),
+    (
+        "[map.clk]\nvar = \"\"\nhigh = -1\nlow = \"0\"",
+        JobFault::WrongKind(Field::Map(Signal::Clk)),
+    ),
+    (
+        "[map.clk]\nvar = \"\"\nlow = 1048576",
+        JobFault::OutOfRange(Field::Map(Signal::Clk)),
+    ),
+    (
+        "[map.clk]\nvar = \"\"\nhigh = false",
+        JobFault::WrongKind(Field::Map(Signal::Clk)),
+    ),
+    (
+        "[map.clk]\nvar = \"\"\nhigh = 1048576",
+        JobFault::OutOfRange(Field::Map(Signal::Clk)),
+    ),
+    (
+        "[image]\nfile = \"trace.log\"\n[map]\nclk = 1",
+        JobFault::OutOfRange(Field::TraceLog),
+    ),
+    (
+        "[map]\nclk = 1\n[[unit]]\n[[unit.entry]]\nmask = 1\nmatch = 3\nop = \"ones\"",
+        JobFault::WrongKind(Field::Map(Signal::Clk)),
+    ),
+];
+
 #[test]
 fn the_first_fault_is_told(rt: HostRuntime) -> Result<(), Fail> {
     for (text, want) in &FAULTS {
@@ -88,6 +166,15 @@ fn the_first_fault_is_told(rt: HostRuntime) -> Result<(), Fail> {
     let missing = Job::read(rt.alloc(), b"[image]\nkind = 1", true);
     let want = JobFault::MissingField(Field::ImageFile);
     assert!(rt; missing.is_err_and(|fault| fault == want));
+    Ok(())
+}
+
+#[test]
+fn the_first_fault_of_a_map_is_told(rt: HostRuntime) -> Result<(), Fail> {
+    for (text, want) in &MAP_FAULTS {
+        let got = Job::read(rt.alloc(), text.as_bytes(), false);
+        assert!(rt; got.is_err_and(|fault| fault == *want), "{text}");
+    }
     Ok(())
 }
 
@@ -114,6 +201,9 @@ fn fields_that_are_absent_have_their_defaults(rt: HostRuntime) -> Result<(), Fai
     assert_eq!(rt; job.set.len(), 0);
     assert_eq!(rt; job.trace.as_str(), "trace.vcd");
     assert_eq!(rt; job.log.as_str(), "trace.log");
+    for signal in Signal::all() {
+        assert!(rt; is_at(job.map.get(signal), Spot::Left), "{signal:?}");
+    }
     Ok(())
 }
 
@@ -177,6 +267,55 @@ fn fields_are_what_the_file_says(rt: HostRuntime) -> Result<(), Fail> {
     Ok(())
 }
 
+const MAP: &str = "
+[params]
+x_rfw_width = 64
+[map]
+clk = \"top.clk\"
+issue_id = 7
+register_rs2 = 0
+result_data = 9223372036854775807
+result_we = {var = \"\"}
+[map.issue_instr]
+var = \"top.instr\"
+low = 1048575
+high = 0
+";
+
+// The places of that map.
+const PLACES: [(Signal, Spot); 7] = [
+    (Signal::Clk, Spot::Named("top.clk", 0, None)),
+    (Signal::RstN, Spot::Left),
+    (Signal::IssueId, Spot::Number(7)),
+    (
+        Signal::IssueInstr,
+        Spot::Named("top.instr", 1_048_575, Some(0)),
+    ),
+    (Signal::RegisterRs2, Spot::Number(0)),
+    (Signal::ResultData, Spot::Number(9_223_372_036_854_775_807)),
+    (Signal::ResultWe, Spot::Named("", 0, None)),
+];
+
+fn is_at(place: &Place, spot: Spot) -> bool {
+    match (place, spot) {
+        (Place::Default, Spot::Left) => true,
+        (Place::Variable { name, low, high }, Spot::Named(wanted, from, to)) => {
+            name.as_str() == wanted && *low == from && *high == to
+        }
+        (Place::Constant(value), Spot::Number(number)) => *value == number,
+        _ => false,
+    }
+}
+
+#[test]
+fn signals_are_where_the_map_says(rt: HostRuntime) -> Result<(), Fail> {
+    let job = Job::read(rt.alloc(), MAP.as_bytes(), false)?;
+    for (signal, spot) in &PLACES {
+        assert!(rt; is_at(job.map.get(*signal), *spot), "{signal:?}");
+    }
+    Ok(())
+}
+
 #[test]
 fn a_list_of_addresses_grows_and_a_field_has_a_name(rt: HostRuntime) -> Result<(), Fail> {
     let mut addresses = Addresses::new(rt.alloc());
@@ -188,5 +327,6 @@ fn a_list_of_addresses_grows_and_a_field_has_a_name(rt: HostRuntime) -> Result<(
         Field::ParamsIssueRegisterSplit.name(),
         "params.x_issue_register_split"
     );
+    assert_eq!(rt; Field::Map(Signal::RstN).name(), "map.rst_n");
     Ok(())
 }
