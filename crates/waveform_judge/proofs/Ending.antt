@@ -116,5 +116,5 @@ read_bad old r x map params text answer f e (inr (inr (g, p))) closed fault =
 
 pub end_bad : (old r : reader.Progress) (x : ItemJudging) (map : List Place) (params : Params) (text : List ℕ) (answer : Answer) (fail : FeedFail) → answer ≡ Err fail → Stands (judge_of old x) map params text
     → Closes old r answer → Stays old r answer → IsFail (judged_of map params text) (fail_of fail)
-end_bad old r x map params text answer (feed.Vcd f) e stands closed fault = judged_bad map params text f (read_bad old r x map params text answer f e stands closed fault)
-end_bad old r x map params text answer feed.NoMemory e stands closed fault = tt
+end_bad old r x map params text answer (feed.Vcd f) e stands closed fault = inr (judged_bad map params text f (read_bad old r x map params text answer f e stands closed fault))
+end_bad old r x map params text answer feed.NoMemory e stands closed fault = inl refl

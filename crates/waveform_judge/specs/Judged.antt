@@ -1,5 +1,5 @@
 -- What a waveform comes to.
-use Rattle.std.specs.Prelude.{◌≡◌, ⊤, ℕ, List, length, reverse, Result, Ok, Err}
+use Rattle.std.specs.Prelude.{◌≡◌, ◌⊎◌, ℕ, List, length, reverse, Result, Ok, Err}
 use Rattle.xif_base.specs.declared.params.Params.{Params}
 use Rattle.xif_signals.specs.declared.sample.Quad.{Quad}
 use Rattle.vcd_text.specs.declared.declaration.Variable.{Variable}
@@ -48,7 +48,6 @@ abbrev pub fail_of : FeedFail → JudgeFail
 fail_of (feed.Vcd fault) = Vcd fault
 fail_of feed.NoMemory = NoMemory
 
--- it is the fault that is meant, or want of memory
+-- there was no memory, or it is the fault that is meant
 abbrev pub IsFail : Result Judged JudgeFail → JudgeFail → Type 0
-IsFail meant NoMemory = ⊤
-IsFail meant fail = meant ≡ Err fail
+IsFail meant fail = (fail ≡ NoMemory) ⊎ (meant ≡ Err fail)

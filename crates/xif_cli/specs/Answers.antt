@@ -5,8 +5,8 @@ use Rattle.xif_base.specs.Faults.{Rose}
 use Rattle.xif_base.specs.declared.outside.Which.{Which}
 use Rattle.xif_base.specs.declared.outside.Which.TheVariants as which
 use Rattle.xif_cli.specs.declared.status.Status.{Status}
-use Rattle.xif_cli.specs.declared.status.Status.TheVariants.{Done, Usage, ReadFault, WriteFault, Job, Image, TooBig, NoMemory, Unbuilt}
-use Rattle.xif_cli.specs.Outcome.{Lookup, place_of, outcome_of}
+use Rattle.xif_cli.specs.declared.status.Status.TheVariants.{Done, Illegal, Usage, ReadFault, WriteFault, Job, Image, Vcd, Map, TooBig, NoMemory, Unbuilt}
+use Rattle.xif_cli.specs.Outcome.{Lookup, Answer, place_of, outcome_of}
 use Rattle.xif_cli.specs.Words.{Form, IsCommand}
 use Rattle.xif_cli.specs.Words as form
 
@@ -19,33 +19,42 @@ abbrev pub IsNoCommand : List (String Global) → Type 0
 IsNoCommand words = (form : Form) → ¬ IsCommand (texts_of words) form
 
 -- what the words ask for comes to this, over what is read of the files
-abbrev pub Means : List (String Global) → Lookup → Result (List ℕ) Status → Type 0
+abbrev pub Means : List (String Global) → Lookup → Result Answer Status → Type 0
 Means words find outcome = (form : Form) × (IsCommand (texts_of words) form × (outcome_of form find ≡ outcome))
 
 -- the files that a form reads
 abbrev pub reads : Form → Which → Bool
 reads (form.Raw image count) w = place_of w == place_of which.Image
 reads (form.Step job) w = (place_of w == place_of which.Job) || (place_of w == place_of which.Image)
+reads (form.Judge job waveform) w = (place_of w == place_of which.Job) || (place_of w == place_of which.Waveform)
 reads _ w = false
 
 -- a form that is built
 abbrev pub is_built : Form → Bool
 is_built (form.Raw image count) = true
 is_built (form.Step job) = true
+is_built (form.Judge job waveform) = true
 is_built _ = false
 
 -- a form that reads a job
 abbrev pub has_job : Form → Bool
 has_job f = reads f which.Job
 
+-- a form that judges a waveform
+abbrev pub is_judge : Form → Bool
+is_judge f = reads f which.Waveform
+
 -- the statuses that a form can end with, whether files are told or not
 abbrev pub can_end : Form → Status → Bool
 can_end f Done = is_built f
+can_end f Illegal = is_judge f
 can_end f Usage = false
 can_end f (ReadFault w) = reads f w
 can_end f (WriteFault w) = is_built f && (place_of w == place_of which.Output)
 can_end f (Job fault) = has_job f
-can_end f (Image fault) = has_job f
+can_end f (Image fault) = has_job f && reads f which.Image
+can_end f (Vcd fault) = is_judge f
+can_end f (Map fault) = is_judge f
 can_end f (TooBig w) = reads f w
 can_end f NoMemory = is_built f
 can_end f Unbuilt = has_job f || not (is_built f)
@@ -53,6 +62,7 @@ can_end f Unbuilt = has_job f || not (is_built f)
 -- the statuses that a form can end with before it prints
 abbrev pub can_refuse : Form → Status → Bool
 can_refuse f Done = false
+can_refuse f Illegal = false
 can_refuse f (WriteFault w) = false
 can_refuse f status = can_end f status
 
@@ -63,11 +73,14 @@ IsFaulted faultless before now = Rose before now × ¬ faultless
 -- a refusal because of what a file holds, or of a form that isn't built
 abbrev pub IsRefusalOfContent : Status → Type 0
 IsRefusalOfContent Done = ⊥
+IsRefusalOfContent Illegal = ⊥
 IsRefusalOfContent Usage = ⊥
 IsRefusalOfContent (ReadFault which) = ⊥
 IsRefusalOfContent (WriteFault which) = ⊥
 IsRefusalOfContent (Job fault) = Unit {0}
 IsRefusalOfContent (Image fault) = Unit {0}
+IsRefusalOfContent (Vcd fault) = Unit {0}
+IsRefusalOfContent (Map fault) = Unit {0}
 IsRefusalOfContent (TooBig which) = Unit {0}
 IsRefusalOfContent NoMemory = ⊥
 IsRefusalOfContent Unbuilt = Unit {0}
@@ -75,11 +88,14 @@ IsRefusalOfContent Unbuilt = Unit {0}
 -- a refusal before anything is written
 abbrev pub IsRefusal : Status → Type 0
 IsRefusal Done = ⊥
+IsRefusal Illegal = ⊥
 IsRefusal Usage = Unit {0}
 IsRefusal (ReadFault which) = Unit {0}
 IsRefusal (WriteFault which) = ⊥
 IsRefusal (Job fault) = Unit {0}
 IsRefusal (Image fault) = Unit {0}
+IsRefusal (Vcd fault) = Unit {0}
+IsRefusal (Map fault) = Unit {0}
 IsRefusal (TooBig which) = Unit {0}
 IsRefusal NoMemory = ⊥
 IsRefusal Unbuilt = Unit {0}

@@ -2,6 +2,7 @@ pub mod Report
 pub mod Words
 pub mod Status
 pub mod Run
+pub mod Verdict
 pub mod Outcome
 pub mod Answers
 pub mod Reading

@@ -1,6 +1,6 @@
--- What a command comes to where nothing fails: the text that it prints, or its refusal. The steps stand in the order in which refusals are
--- told.
-use Rattle.std.specs.Prelude.{◌==◌, ℕ, cond, List, length, Option, Some, None, Result, Ok, Err, nat_le, true}
+-- What a command comes to where nothing fails: how it ends and the text that it prints, or its refusal. The steps stand in the order in
+-- which refusals are told.
+use Rattle.std.specs.Prelude.{◌==◌, ℕ, Bool, cond, List, length, Option, Some, None, Result, Ok, Err, nat_le, true, false}
 use Rattle.std.specs.FinMap as map
 use Rattle.xif_base.specs.Files.{Files}
 use Rattle.xif_base.specs.declared.outside.Which.{Which}
@@ -9,16 +9,22 @@ use Rattle.xif_image.specs.Image.{Placement, raw_image}
 use Rattle.xif_image.specs.Text.{text_image}
 use Rattle.xif_image.specs.declared.image.ImageFault.{ImageFault}
 use Rattle.xif_image.specs.declared.image.ImageFault.TheVariants as image
+use Rattle.waveform_judge.specs.Judged.{judged_of}
+use Rattle.waveform_judge.specs.declared.judged.JudgeFail.{JudgeFail}
+use Rattle.waveform_judge.specs.declared.judged.JudgeFail.TheVariants as judge
 use Rattle.xif_job.specs.FieldTable.{read_of}
 use Rattle.xif_job.specs.declared.field.JobFault.{JobFault}
 use Rattle.xif_job.specs.declared.field.JobFault.TheVariants as job
 use Rattle.xif_job.specs.declared.image.ImageKind.{ImageKind}
 use Rattle.xif_job.specs.declared.image.ImageKind.TheVariants.{Text, Raw}
 use Rattle.xif_job.specs.declared.job.Job.{Job}
-use Rattle.xif_cli.specs.declared.limits.TheConstants.{RAW_LIMIT, JOB_LIMIT, RAW_IMAGE_LIMIT, TEXT_IMAGE_LIMIT}
+use Rattle.xif_cli.specs.declared.limits.TheConstants.{RAW_LIMIT, JOB_LIMIT, RAW_IMAGE_LIMIT, TEXT_IMAGE_LIMIT, WAVEFORM_LIMIT}
+use Rattle.xif_cli.specs.declared.answer.End.{End}
+use Rattle.xif_cli.specs.declared.answer.End.TheVariants as end
 use Rattle.xif_cli.specs.declared.status.Status.{Status}
 use Rattle.xif_cli.specs.declared.status.Status.TheVariants as status
 use Rattle.xif_cli.specs.Run.{raw_report, step_report}
+use Rattle.xif_cli.specs.Verdict.{judged_end, judged_text}
 use Rattle.xif_cli.specs.Words.{Form}
 use Rattle.xif_cli.specs.Words as form
 
@@ -63,15 +69,21 @@ abbrev pub image_status : ImageFault → Status
 image_status image.NoMemory = status.NoMemory
 image_status fault = status.Image fault
 
+-- the status of a waveform that can't be judged
+abbrev pub judge_status : JudgeFail → Status
+judge_status (judge.Vcd fault) = status.Vcd fault
+judge_status (judge.Map fault) = status.Map fault
+judge_status judge.NoMemory = status.NoMemory
+
 abbrev pub or_status : {A E : Type 0} → (E → Status) → Result A E → Result A Status
 or_status f (Ok x) = Ok x
 or_status f (Err e) = Err (f e)
 
--- the job in the file of a name; it has to name its image
-abbrev pub job_in : List ℕ → Lookup → Result Job Status
-job_in name find = do
+-- the job in the file of a name, where it may have to name its image
+abbrev pub job_in : Bool → List ℕ → Lookup → Result Job Status
+job_in needs_image name find = do
   bytes ← file_in which.Job JOB_LIMIT (find which.Job name)
-  or_status job_status (read_of true bytes)
+  or_status job_status (read_of needs_image bytes)
 
 -- the longest file of an image, in bytes
 abbrev pub image_limit : ImageKind → ℕ
@@ -89,18 +101,36 @@ image_of job find = do
   bytes ← file_in which.Image (image_limit job.image.kind) (find which.Image job.image.file)
   or_status image_status (image_by job.image.kind job bytes)
 
-abbrev pub raw_outcome : List ℕ → ℕ → Lookup → Result (List ℕ) Status
+-- how a command ends that isn't refused, and the text that it prints
+pub record Answer : Type 0 where
+  pub end : End
+  pub text : List ℕ
+
+-- the status of a command that ends so
+abbrev pub end_status : End → Status
+end_status end.Done = status.Done
+end_status end.Illegal = status.Illegal
+
+abbrev pub raw_outcome : List ℕ → ℕ → Lookup → Result Answer Status
 raw_outcome image count find = do
   bytes ← file_in which.Image RAW_LIMIT (find which.Image image)
-  Ok (raw_report bytes count)
+  Ok (record { end = end.Done; text = raw_report bytes count })
 
-abbrev pub step_outcome : List ℕ → Lookup → Result (List ℕ) Status
+abbrev pub step_outcome : List ℕ → Lookup → Result Answer Status
 step_outcome name find = do
-  job ← job_in name find
+  job ← job_in true name find
   image ← image_of job find
-  Ok (step_report job image)
+  Ok (record { end = end.Done; text = step_report job image })
 
-abbrev pub outcome_of : Form → Lookup → Result (List ℕ) Status
+abbrev pub judge_outcome : List ℕ → List ℕ → Lookup → Result Answer Status
+judge_outcome name waveform find = do
+  job ← job_in false name find
+  bytes ← file_in which.Waveform WAVEFORM_LIMIT (find which.Waveform waveform)
+  judged ← or_status judge_status (judged_of job.map job.params bytes)
+  Ok (record { end = judged_end judged; text = judged_text judged })
+
+abbrev pub outcome_of : Form → Lookup → Result Answer Status
 outcome_of (form.Raw image count) find = raw_outcome image count find
 outcome_of (form.Step job) find = step_outcome job find
+outcome_of (form.Judge job waveform) find = judge_outcome job waveform find
 outcome_of _ find = Err status.Unbuilt

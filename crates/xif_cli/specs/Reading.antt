@@ -4,7 +4,7 @@ use Rattle.xif_base.specs.Files.{Files}
 use Rattle.xif_base.specs.declared.outside.Which.{Which}
 use Rattle.xif_base.specs.declared.outside.Which.TheVariants as which
 use Rattle.xif_cli.specs.declared.status.Status.{Status}
-use Rattle.xif_cli.specs.declared.status.Status.TheVariants.{ReadFault, Job, Image, TooBig, NoMemory, Unbuilt}
+use Rattle.xif_cli.specs.declared.status.Status.TheVariants.{ReadFault, Job, Image, Vcd, Map, TooBig, NoMemory, Unbuilt}
 use Rattle.xif_cli.specs.Outcome.{Lookup, found, without, place_of}
 
 -- what a function returned, as view sees it
@@ -36,3 +36,9 @@ can_refuse_job status = can_refuse_file which.Job status
 abbrev pub can_refuse_image : Status → Bool
 can_refuse_image (Image fault) = true
 can_refuse_image status = can_refuse_file which.Image status
+
+-- the refusals at the reading of a waveform
+abbrev pub can_refuse_waveform : Status → Bool
+can_refuse_waveform (Vcd fault) = true
+can_refuse_waveform (Map fault) = true
+can_refuse_waveform status = can_refuse_file which.Waveform status

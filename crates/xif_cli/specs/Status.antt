@@ -9,18 +9,26 @@ use Rattle.xif_image.specs.declared.image.ImageFault.{ImageFault}
 use Rattle.xif_image.specs.declared.image.ImageFault.TheVariants as image
 use Rattle.xif_job.specs.declared.field.JobFault.{JobFault}
 use Rattle.xif_job.specs.declared.field.JobFault.TheVariants as job
+use Rattle.vcd_text.specs.declared.fault.VcdCause.{VcdCause}
+use Rattle.vcd_text.specs.declared.fault.VcdCause.TheVariants.{BadToken, OpenBlock, BadVar, SizeDiffers, UnknownCode, TooWide, BadTime, TimeBack, NoDefinitionsEnd}
+use Rattle.xif_sampler.specs.declared.fault.MapFault.{MapFault}
+use Rattle.xif_sampler.specs.declared.fault.MapFault.TheVariants.{Missing, Ambiguous, Narrow}
+use Rattle.xif_signals.specs.Signal.{name_of}
 use Rattle.xif_job.specs.Field.{dotted}
 use Rattle.xif_cli.specs.declared.status.Status.{Status}
-use Rattle.xif_cli.specs.declared.status.Status.TheVariants.{Done, Usage, ReadFault, WriteFault, Job, Image, TooBig, NoMemory, Unbuilt}
+use Rattle.xif_cli.specs.declared.status.Status.TheVariants.{Done, Illegal, Usage, ReadFault, WriteFault, Job, Image, Vcd, Map, TooBig, NoMemory, Unbuilt}
 use lib.Chars.{codes}
 
 abbrev pub number_of : Status → ℕ
 number_of Done = 0
+number_of Illegal = 1
 number_of Usage = 2
 number_of (ReadFault which) = 3
 number_of (WriteFault which) = 4
 number_of (Job fault) = 5
 number_of (Image fault) = 6
+number_of (Vcd fault) = 7
+number_of (Map fault) = 8
 number_of (TooBig which) = 9
 number_of NoMemory = 10
 number_of Unbuilt = 11
@@ -59,14 +67,35 @@ image_words (image.Outside at) = codes "outside at=" ++ decimal at
 image_words image.Empty = codes "empty"
 image_words image.NoMemory = codes "no memory"
 
+-- the word for what is wrong with the text of a waveform
+abbrev pub vcd_word : VcdCause → List ℕ
+vcd_word BadToken = codes "bad-token"
+vcd_word OpenBlock = codes "open-block"
+vcd_word BadVar = codes "bad-var"
+vcd_word SizeDiffers = codes "size-differs"
+vcd_word UnknownCode = codes "unknown-code"
+vcd_word TooWide = codes "too-wide"
+vcd_word BadTime = codes "bad-time"
+vcd_word TimeBack = codes "time-back"
+vcd_word NoDefinitionsEnd = codes "no-definitions-end"
+
+-- what is said of a signal that isn't found
+abbrev pub map_words : MapFault → List ℕ
+map_words (Missing signal) = codes "missing " ++ name_of signal
+map_words (Ambiguous signal) = codes "ambiguous " ++ name_of signal
+map_words (Narrow signal) = codes "narrow " ++ name_of signal
+
 -- what is said of a status on standard error
 abbrev pub fault_line : Status → List ℕ
 fault_line Done = []
+fault_line Illegal = []
 fault_line Usage = codes "usage"
 fault_line (ReadFault which) = codes "read " ++ word_of which
 fault_line (WriteFault which) = codes "write " ++ word_of which
 fault_line (Job fault) = codes "job " ++ job_words fault
 fault_line (Image fault) = codes "image " ++ image_words fault
+fault_line (Vcd fault) = codes "vcd " ++ vcd_word fault.cause ++ codes " at=" ++ decimal fault.at
+fault_line (Map fault) = codes "map " ++ map_words fault
 fault_line (TooBig which) = codes "too-big " ++ word_of which
 fault_line NoMemory = codes "no memory"
 fault_line Unbuilt = codes "unbuilt"

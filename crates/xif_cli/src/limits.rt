@@ -11,3 +11,6 @@ pub const RAW_IMAGE_LIMIT: u64 = 1_048_576;
 
 /// A job's image that is a text.
 pub const TEXT_IMAGE_LIMIT: u64 = 8_388_608;
+
+/// A waveform.
+pub const WAVEFORM_LIMIT: u64 = 134_217_728;

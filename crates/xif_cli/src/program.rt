@@ -1,17 +1,20 @@
 //! The whole program, but for the words, the files and the outputs of the system.
-ghost use Rattle.std.specs.Prelude.{◌≡◌, ◌≢◌, ◌⊎◌, ◌≤◌, ◌↔◌, ℕ, List, IsTrue, IfErr, OnOk};
-ghost use Rattle.std.specs.String.{string_bytes};
+ghost use Rattle.std.specs.Prelude.{◌≡◌, ◌≢◌, ◌⊎◌, ◌≤◌, ◌↔◌, ℕ, List, IsTrue, IfErr, IfOk};
 ghost use Rattle.xif_base.specs.Files.{Files};
 ghost use Rattle.xif_base.specs.Output.{grown, GrowsByFront};
 ghost use Rattle.xif_cli.specs.Answers.{IsNoCommand, Means, is_built, can_end, can_refuse, IsFaulted, IsRefusalOfContent, IsRefusal, texts_of};
-ghost use Rattle.xif_cli.specs.Outcome.{found, without, outcome_of};
+ghost use Rattle.xif_cli.specs.Outcome.{Answer, end_status, found, without, outcome_of};
+ghost use Rattle.xif_cli.specs.declared.answer.End.{End};
+ghost use Rattle.xif_cli.specs.Printing.{IsPrintFail};
 ghost use Rattle.xif_cli.specs.Reading.{Ends, seen};
 ghost use Rattle.xif_cli.specs.Words.{Form, IsCommand, form_of};
 
+use crate::answer::Answer;
+use crate::judge::judge_answer;
 use crate::print::print;
-use crate::raw::raw_text;
+use crate::raw::raw_answer;
 use crate::status::Status;
-use crate::step::step_text;
+use crate::step::step_answer;
 use crate::words::{Command, parse_command};
 use std::alloc::Global;
 use xif_base::{Out, Shelf, Which};
@@ -24,10 +27,10 @@ pub fn xif<S: Shelf, O: Out>(alloc: Global, words: &[String], shelf: &mut S, out
     ensures form { result ≢ Status.Usage →
         (form : Form) × (IsCommand (texts_of words.now) form × IsTrue (can_end form result)) }
 
-    // Over files that are told, a command is done where it comes to a text, which is printed. It
-    // refuses what a file holds where it comes to that refusal.
-    ensures done { result ≡ Status.Done → (m : Files) → S.files shelf.old ≡ Some m →
-        (text : List ℕ) × (Means words.now (found m) (Ok text)
+    // Over files that are told, a command ends as it comes to, and its text is printed. It refuses what a
+    // file holds where it comes to that refusal.
+    ensures ends { (end : End) → result ≡ end_status end → (m : Files) → S.files shelf.old ≡ Some m →
+        (text : List ℕ) × (Means words.now (found m) (Ok (record { end = end; text = text }))
         × (O.put_bytes out.new ≡ grown (O.put_bytes out.old) text)) }
     ensures refused { IsRefusalOfContent result → (m : Files) → S.files shelf.old ≡ Some m →
         Means words.now (found m) (Err result) }
@@ -44,13 +47,13 @@ pub fn xif<S: Shelf, O: Out>(alloc: Global, words: &[String], shelf: &mut S, out
     ensures write_fault { (w : Which) → result ≡ Status.WriteFault w →
         IsFaulted (O.faultless out.old) (O.faults out.old) (O.faults out.new) }
     ensures written { (w : Which) → result ≡ Status.WriteFault w → (m : Files) → S.files shelf.old ≡ Some m →
-        (text : List ℕ) × (Means words.now (found m) (Ok text)
-        × GrowsByFront (O.put_bytes out.old) (O.put_bytes out.new) text) }
+        (answer : Answer) × (Means words.now (found m) (Ok answer)
+        × GrowsByFront (O.put_bytes out.old) (O.put_bytes out.new) answer.text) }
 
     // But for want of memory and for faults that were counted, a command ends as it comes to.
     ensures complete { (m : Files) → S.files shelf.old ≡ Some m →
-        (text : List ℕ) → Means words.now (found m) (Ok text) →
-        (result ≡ Status.Done) ⊎ ((result ≡ Status.NoMemory)
+        (answer : Answer) → Means words.now (found m) (Ok answer) →
+        (result ≡ end_status answer.end) ⊎ ((result ≡ Status.NoMemory)
         ⊎ (IsFaulted (S.faultless shelf.old) (S.fetch_faults shelf.old) (S.fetch_faults shelf.new)
         ⊎ IsFaulted (O.faultless out.old) (O.faults out.old) (O.faults out.new))) }
     ensures refuses { (m : Files) → S.files shelf.old ≡ Some m →
@@ -61,8 +64,8 @@ pub fn xif<S: Shelf, O: Out>(alloc: Global, words: &[String], shelf: &mut S, out
     // What stands afterwards: the files as they were; of the text all, a front or nothing.
     ensures no_memory { result ≡ Status.NoMemory → (m : Files) → S.files shelf.old ≡ Some m →
         (O.put_bytes out.new ≡ O.put_bytes out.old)
-        ⊎ ((text : List ℕ) × (Means words.now (found m) (Ok text)
-        × GrowsByFront (O.put_bytes out.old) (O.put_bytes out.new) text)) }
+        ⊎ ((answer : Answer) × (Means words.now (found m) (Ok answer)
+        × GrowsByFront (O.put_bytes out.old) (O.put_bytes out.new) answer.text)) }
     ensures refusal { IsRefusal result → out.new ≡ out.old }
     ensures files { S.files shelf.new ≡ S.files shelf.old }
     ensures write_count { S.write_faults shelf.new ≡ S.write_faults shelf.old }
@@ -73,23 +76,42 @@ pub fn xif<S: Shelf, O: Out>(alloc: Global, words: &[String], shelf: &mut S, out
     ensures no_fetch_fault { S.faultless shelf.old → S.fetch_faults shelf.new ≡ S.fetch_faults shelf.old }
     ensures no_put_fault { O.faultless out.old → O.faults out.new ≡ O.faults out.old }
 {
-    match parse_command(words) {
-        None => Status::Usage,
-        Some(command) => match text_of(alloc, command, shelf) {
-            Ok(text) => print(text.as_str(), out),
-            Err(status) => status,
-        },
+    let Some(command) = parse_command(words) else {
+        return Status::Usage;
+    };
+    match answer_of(alloc, command, shelf) {
+        Ok(answer) => finish(&answer, out),
+        Err(status) => status,
     }
 }
 
-// The text that a command prints.
-fn text_of<S: Shelf>(alloc: Global, command: Command<'_>, shelf: &mut S) -> Result<String, Status>
+// Prints what a command came to.
+fn finish<O: Out>(answer: &Answer, out: &mut O) -> Status
+    ensures end { (result ≡ end_status answer.now.end) ⊎ IsPrintFail result }
+    ensures put { (end : End) → result ≡ end_status end →
+        O.put_bytes out.new ≡ grown (O.put_bytes out.old) answer.now.text }
+    ensures front { IsPrintFail result →
+        GrowsByFront (O.put_bytes out.old) (O.put_bytes out.new) answer.now.text }
+    ensures write_fault { result ≡ Status.WriteFault Which.Output →
+        IsFaulted (O.faultless out.old) (O.faults out.old) (O.faults out.new) }
+    ensures puts { O.faults out.old ≤ O.faults out.new }
+    ensures no_put_fault { O.faultless out.old → O.faults out.new ≡ O.faults out.old }
+{
+    match print(answer.text.as_str(), out) {
+        Ok(()) => answer.end.status(),
+        Err(status) => status,
+    }
+}
+
+// What a command comes to.
+fn answer_of<S: Shelf>(alloc: Global, command: Command<'_>, shelf: &mut S) -> Result<Answer, Status>
     ensures told { (m : Files) → S.files shelf.old ≡ Some m →
         Ends (IsFaulted (S.faultless shelf.old) (S.fetch_faults shelf.old) (S.fetch_faults shelf.new)) m
-        (outcome_of (form_of command.entry)) (seen string_bytes result) }
+        (outcome_of (form_of command.entry)) (seen (λ answer. answer) result) }
     ensures untold { S.files shelf.old ≡ None → (w : Which) → result ≡ Err (Status.ReadFault w) →
         IsFaulted (S.faultless shelf.old) (S.fetch_faults shelf.old) (S.fetch_faults shelf.new) }
-    ensures ok { OnOk result (IsTrue (is_built (form_of command.entry))) }
+    ensures ok { IfOk result (λ answer. IsTrue (is_built (form_of command.entry))
+        × IsTrue (can_end (form_of command.entry) (end_status answer.end))) }
     ensures refusal { IfErr result (λ status. IsTrue (can_refuse (form_of command.entry) status)) }
     ensures files { S.files shelf.new ≡ S.files shelf.old }
     ensures writes { S.write_faults shelf.new ≡ S.write_faults shelf.old }
@@ -97,8 +119,9 @@ fn text_of<S: Shelf>(alloc: Global, command: Command<'_>, shelf: &mut S) -> Resu
     ensures no_fault { S.faultless shelf.old → S.fetch_faults shelf.new ≡ S.fetch_faults shelf.old }
 {
     match command {
-        Command::Raw { image, count } => raw_text(alloc, image, count, shelf),
-        Command::Step { job } => step_text(alloc, job, shelf),
+        Command::Raw { image, count } => raw_answer(alloc, image, count, shelf),
+        Command::Step { job } => step_answer(alloc, job, shelf),
+        Command::Judge { job, waveform } => judge_answer(alloc, job, waveform, shelf),
         _ => Err(Status::Unbuilt),
     }
 }

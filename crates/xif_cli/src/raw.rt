@@ -7,6 +7,7 @@ ghost use Rattle.xif_cli.specs.Outcome.{raw_outcome};
 ghost use Rattle.xif_cli.specs.Reading.{Ends, seen, can_refuse_file};
 ghost use Rattle.xif_cli.specs.Run.{raw_report};
 
+use crate::answer::{Answer, End};
 use crate::limits::RAW_LIMIT;
 use crate::read::read_file;
 use crate::run::{raw_machine, run_report};
@@ -29,25 +30,29 @@ const LEAST_PARAMS: Params = Params {
 };
 
 /// The report of the image of a file, which runs at address 0 for at most `count` retirements.
-pub(crate) fn raw_text<S: Shelf>(
+pub(crate) fn raw_answer<S: Shelf>(
     alloc: Global,
     image: &str,
     count: u32,
     shelf: &mut S,
-) -> Result<String, Status>
+) -> Result<Answer, Status>
     ensures told { (m : Files) → S.files shelf.old ≡ Some m →
         Ends (IsFaulted (S.faultless shelf.old) (S.fetch_faults shelf.old) (S.fetch_faults shelf.new)) m
-        (raw_outcome image.now count) (seen string_bytes result) }
+        (raw_outcome image.now count) (seen (λ answer. answer) result) }
     ensures untold { S.files shelf.old ≡ None → (w : Which) → result ≡ Err (Status.ReadFault w) →
         IsFaulted (S.faultless shelf.old) (S.fetch_faults shelf.old) (S.fetch_faults shelf.new) }
     ensures refusal { IfErr result (λ status. IsTrue (can_refuse_file Which.Image status)) }
+    ensures done { IfOk result (λ answer. answer.end ≡ End.Done) }
     ensures files { S.files shelf.new ≡ S.files shelf.old }
     ensures writes { S.write_faults shelf.new ≡ S.write_faults shelf.old }
     ensures count { S.fetch_faults shelf.old ≤ S.fetch_faults shelf.new }
     ensures no_fault { S.faultless shelf.old → S.fetch_faults shelf.new ≡ S.fetch_faults shelf.old }
 {
     let bytes = read_file(alloc, Which::Image, image, RAW_LIMIT, shelf)?;
-    Ok(report_of_image(alloc, &bytes, count)?)
+    Ok(Answer {
+        end: End::Done,
+        text: report_of_image(alloc, &bytes, count)?,
+    })
 }
 
 // The report of a run of an image.

@@ -44,11 +44,16 @@ pub(crate) fn read_file<S: Shelf>(
     }
 }
 
-/// Reads the job of a command that runs it. It has to name its image.
-pub(crate) fn read_job<S: Shelf>(alloc: Global, name: &str, shelf: &mut S) -> Result<Job, Status>
+/// Reads the job of a command. It has to name its image where the command runs it.
+pub(crate) fn read_job<S: Shelf>(
+    alloc: Global,
+    name: &str,
+    needs_image: bool,
+    shelf: &mut S,
+) -> Result<Job, Status>
     ensures told { (m : Files) → S.files shelf.old ≡ Some m →
         Ends (IsFaulted (S.faultless shelf.old) (S.fetch_faults shelf.old) (S.fetch_faults shelf.new)) m
-        (job_in name.now) (seen (λ job. job) result) }
+        (job_in needs_image name.now) (seen (λ job. job) result) }
     ensures untold { S.files shelf.old ≡ None → (w : Which) → result ≡ Err (Status.ReadFault w) →
         IsFaulted (S.faultless shelf.old) (S.fetch_faults shelf.old) (S.fetch_faults shelf.new) }
     ensures refusal { IfErr result (λ status. IsTrue (can_refuse_job status)) }
@@ -62,7 +67,7 @@ pub(crate) fn read_job<S: Shelf>(alloc: Global, name: &str, shelf: &mut S) -> Re
     ensures no_fault { S.faultless shelf.old → S.fetch_faults shelf.new ≡ S.fetch_faults shelf.old }
 {
     let bytes = read_file(alloc, Which::Job, name, JOB_LIMIT, shelf)?;
-    Ok(Job::read(alloc, &bytes, true)?)
+    Ok(Job::read(alloc, &bytes, needs_image)?)
 }
 
 /// Reads the image of a job.

@@ -1,18 +1,23 @@
 //! What a command ended with.
 ghost use Rattle.std.specs.Prelude.{◌≡◌, ◌≢◌, ◌↔◌, IsTrue};
-ghost use Rattle.xif_cli.specs.Status.{number_of, word_of, cause_word};
+ghost use Rattle.xif_cli.specs.Status.{number_of, word_of, cause_word, vcd_word};
 
 use coproc_config::SetCause;
 use std::fmt;
+use vcd_text::{VcdCause, VcdFault};
+use waveform_judge::JudgeFail;
 use xif_base::{NoMemory, Which};
 use xif_image::ImageFault;
 use xif_job::JobFault;
+use xif_sampler::MapFault;
 
 /// What a call of the program ended with. Each has its number, which is the exit status.
 #[derive(Clone, Copy, Debug, PartialEq, Eq)]
 pub enum Status {
     /// The command ended as it is defined.
     Done,
+    /// A rule of the interface failed in the waveform that was judged.
+    Illegal,
     /// The words are none of the forms of the command line.
     Usage,
     /// A file could not be read.
@@ -23,6 +28,10 @@ pub enum Status {
     Job(JobFault),
     /// The image's file breaks the form of its kind, or lies outside the memory.
     Image(ImageFault),
+    /// The waveform's file has no reading.
+    Vcd(VcdFault),
+    /// A signal isn't found in the waveform where the job says.
+    Map(MapFault),
     /// A file is longer than its limit.
     TooBig(Which),
     /// There was no memory left.
@@ -38,11 +47,14 @@ impl Status {
     {
         match self {
             Status::Done => 0,
+            Status::Illegal => 1,
             Status::Usage => 2,
             Status::ReadFault(_) => 3,
             Status::WriteFault(_) => 4,
             Status::Job(_) => 5,
             Status::Image(_) => 6,
+            Status::Vcd(_) => 7,
+            Status::Map(_) => 8,
             Status::TooBig(_) => 9,
             Status::NoMemory => 10,
             Status::Unbuilt => 11,
@@ -51,9 +63,9 @@ impl Status {
 
     /// Whether a fault line is printed of it.
     pub fn is_fault(&self) -> bool
-        ensures { IsTrue result ↔ (self.now ≢ Status.Done) }
+        ensures { IsTrue result ↔ ((self.now ≢ Status.Done) × (self.now ≢ Status.Illegal)) }
     {
-        *self != Status::Done
+        !matches!(self, Status::Done | Status::Illegal)
     }
 }
 
@@ -97,6 +109,21 @@ impl From<ImageFault> for Status {
     }
 }
 
+impl From<JudgeFail> for Status {
+    ghost use Rattle.std.specs.Prelude.{◌≡◌};
+    ghost use Rattle.xif_cli.specs.Outcome.{judge_status};
+
+    ghost from_gives = { λ fail status. status ≡ judge_status fail };
+
+    fn from(fail: JudgeFail) -> Self {
+        match fail {
+            JudgeFail::Vcd(fault) => Status::Vcd(fault),
+            JudgeFail::Map(fault) => Status::Map(fault),
+            JudgeFail::NoMemory => Status::NoMemory,
+        }
+    }
+}
+
 /// The fault line, without the end of the line: empty where there is none.
 impl fmt::Display for Status {
     ghost use Rattle.std.specs.Prelude.{Some};
@@ -106,12 +133,14 @@ impl fmt::Display for Status {
 
     fn fmt<W: fmt::Write>(&self, f: &mut fmt::Formatter<W>) -> fmt::Result {
         match self {
-            Status::Done => Ok(()),
+            Status::Done | Status::Illegal => Ok(()),
             Status::Usage => f.write_str("usage"),
             Status::ReadFault(which) => write!(f, "read {}", word_of(*which)),
             Status::WriteFault(which) => write!(f, "write {}", word_of(*which)),
             Status::Job(fault) => write!(f, "job {}", JobWords(*fault)),
             Status::Image(fault) => write!(f, "image {}", ImageWords(*fault)),
+            Status::Vcd(fault) => write!(f, "vcd {} at={}", vcd_word(fault.cause), fault.at),
+            Status::Map(fault) => write!(f, "map {}", MapWords(*fault)),
             Status::TooBig(which) => write!(f, "too-big {}", word_of(*which)),
             Status::NoMemory => f.write_str("no memory"),
             Status::Unbuilt => f.write_str("unbuilt"),
@@ -189,6 +218,42 @@ impl fmt::Display for ImageWords {
             ImageFault::Outside { at } => write!(f, "outside at={at}"),
             ImageFault::Empty => f.write_str("empty"),
             ImageFault::NoMemory => f.write_str("no memory"),
+        }
+    }
+}
+
+// The word for what is wrong with the text of a waveform.
+fn vcd_word(cause: VcdCause) -> &'static str
+    ensures { result.now ≡ vcd_word cause }
+{
+    match cause {
+        VcdCause::BadToken => "bad-token",
+        VcdCause::OpenBlock => "open-block",
+        VcdCause::BadVar => "bad-var",
+        VcdCause::SizeDiffers => "size-differs",
+        VcdCause::UnknownCode => "unknown-code",
+        VcdCause::TooWide => "too-wide",
+        VcdCause::BadTime => "bad-time",
+        VcdCause::TimeBack => "time-back",
+        VcdCause::NoDefinitionsEnd => "no-definitions-end",
+    }
+}
+
+// What is said of a signal that isn't found.
+#[derive(Clone, Copy)]
+struct MapWords(MapFault);
+
+impl fmt::Display for MapWords {
+    ghost use Rattle.std.specs.Prelude.{Some};
+    ghost use Rattle.xif_cli.specs.Status.{map_words};
+
+    ghost output = { λ words. Some (map_words words.0) };
+
+    fn fmt<W: fmt::Write>(&self, f: &mut fmt::Formatter<W>) -> fmt::Result {
+        match self.0 {
+            MapFault::Missing(signal) => write!(f, "missing {}", signal.name()),
+            MapFault::Ambiguous(signal) => write!(f, "ambiguous {}", signal.name()),
+            MapFault::Narrow(signal) => write!(f, "narrow {}", signal.name()),
         }
     }
 }

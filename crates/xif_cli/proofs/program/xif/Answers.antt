@@ -1,6 +1,7 @@
-use Rattle.std.proofs.Common.{◌≡◌, ◌⊎◌, inl, inr, Option, Some, None, Result, Err, refl, List, ℕ}
+use Rattle.std.proofs.Common.{◌≡◌, ◌⊎◌, inl, inr, Option, Some, None, Result, Err, refl}
 use Rattle.xif_cli.specs.declared.status.Status.{Status}
 use Rattle.xif_cli.specs.declared.status.Status.TheVariants.{ReadFault}
+use Rattle.xif_cli.specs.Outcome.{Answer}
 use Rattle.xif_cli.specs.Words.{form_of}
 use Rattle.xif_cli.proofs.program.xif.Goals as goal
 
@@ -20,5 +21,5 @@ returns-in-Err-clause-read_fault g c = λ w is.
 
 pub returns-in-Err-clause-read_before : goal.returns-in-Err-clause-read_before
 returns-in-Err-clause-read_before g c = λ w is m told.
-    let same : (let r : Result (List ℕ) Status = Err c.in-Err.status in r) ≡ Err (ReadFault w) = cc in
+    let same : (let r : Result Answer Status = Err c.in-Err.status in r) ≡ Err (ReadFault w) = cc in
     (form_of c.in-Some.command, (c.in-Some.ensures.found, (c.in-Err.ensures.told m told).before w same))
