@@ -9,6 +9,8 @@ mod jobs;
 #[cfg(test)]
 mod judge;
 #[cfg(test)]
+mod judging;
+#[cfg(test)]
 mod maps;
 #[cfg(test)]
 mod pieces;

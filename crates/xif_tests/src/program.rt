@@ -432,7 +432,7 @@ const FORMS: [(&str, Status); 10] = [
     ("step|a.toml", Status::ReadFault(Which::Job)),
     ("run|a.toml", Status::Unbuilt),
     ("run|step", Status::Unbuilt),
-    ("judge|a.toml|b.vcd", Status::Unbuilt),
+    ("judge|a.toml|b.vcd", Status::ReadFault(Which::Job)),
     ("gen|0|1", Status::Unbuilt),
     ("gen|4294967295|20000", Status::Unbuilt),
     ("harts|a.toml", Status::Unbuilt),
