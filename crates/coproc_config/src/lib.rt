@@ -18,8 +18,6 @@ mod compute;
 mod operation;
 mod set;
 mod state;
-#[cfg(test)]
-mod tests;
 
 pub use accept::Hit;
 pub use check::{SetCause, SetFault};

@@ -143,6 +143,3 @@ impl Machine {
         &self.units
     }
 }
-
-#[cfg(test)]
-mod tests;

@@ -5,11 +5,15 @@
 #[cfg(test)]
 mod base;
 #[cfg(test)]
+mod coprocessors;
+#[cfg(test)]
 mod jobs;
 #[cfg(test)]
 mod judge;
 #[cfg(test)]
 mod judging;
+#[cfg(test)]
+mod machine;
 #[cfg(test)]
 mod maps;
 #[cfg(test)]

@@ -1,7 +1,7 @@
 // Each operation, and the public calls, on values from another model.
 ghost use Rattle.coproc_config.specs.State.{IsStateOf};
 
-use crate::{Entry, Op, Operands, Set, SetCause, SetFault, UnitState};
+use coproc_config::{Entry, Op, Operands, Set, SetCause, SetFault, UnitState};
 use std::alloc::Global;
 use std::process::Abort;
 use std::test::Fail;

@@ -2,14 +2,13 @@
 ghost use Rattle.std.specs.Prelude.{IfOk};
 ghost use Rattle.coproc_config.specs.State.{IsStateOf};
 
-use super::*;
-use crate::{Store, Write};
-use coproc_config::{Entry, Op};
+use coproc_config::{Entry, Op, Set, UnitState};
+use inorder_machine::{Advanced, Machine, Retire, Stepped, StopCause, Store, Write};
 use std::alloc::Global;
 use std::process::Abort;
 use std::test::Fail;
-use xif_base::NoMemory;
-use xif_image::Image;
+use xif_base::{NoMemory, Params};
+use xif_image::{Image, Memory};
 
 const PARAMS: Params = Params {
     num_rs: 2,
