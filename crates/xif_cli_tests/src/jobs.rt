@@ -1,6 +1,5 @@
 // Texts of job files, with the fault of each, or with what is in the job. The outcomes are those of an
 // independent model of the format.
-use crate::maps::Spot;
 use coproc_config::{Entry, Op, SetCause, SetFault};
 use std::test::Fail;
 use xif_base::Params;
@@ -281,6 +280,14 @@ var = \"top.instr\"
 low = 1048575
 high = 0
 ";
+
+/// A place as it is written here.
+#[derive(Clone, Copy)]
+enum Spot {
+    Left,
+    Named(&'static str, u32, Option<u32>),
+    Number(u64),
+}
 
 // The places of that map.
 const PLACES: [(Signal, Spot); 7] = [
