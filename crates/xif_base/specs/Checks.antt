@@ -1,7 +1,7 @@
--- Tests in their order, each with the fault that it is where the test fails.
-use Rattle.std.specs.Prelude.{Bool, cond, List, [], ◌∷◌, Result, Ok, Err}
+-- Tests in an order, each with the error that is returned where the test fails.
+use Rattle.std.specs.Prelude.{Bool, if◌then◌else◌, List, [], ◌∷◌, Result, Ok, Err}
 
--- the fault of the first test that fails
-abbrev pub first_fault : {F : Type 0} → List (Bool × F) → Result Unit F
-first_fault [] = Ok tt
-first_fault (test ∷ tests) = cond test.0 (first_fault tests) (Err test.1)
+-- the error of the first test that fails
+abbrev pub first_failing : {F : Type 0} → List (Bool × F) → Result Unit F
+first_failing [] = Ok tt
+first_failing (test ∷ tests) = if test.0 then first_failing tests else Err test.1

@@ -1,12 +1,12 @@
--- Counts of faults, which never fall.
+-- Counts of faults, which never fall, and what a call leaves of them.
 use Rattle.std.specs.Prelude.{◌≡◌, ◌≤◌, ◌+◌, ◌-◌, ◌^◌, ℕ, Option, min}
 use Rattle.xif_base.specs.Files.{Files}
 
--- one more, and no more at the last value of 64 bits
+-- One more. A count at the largest value of 64 bits stays.
 abbrev pub raised : ℕ → ℕ
 raised n = min (n + 1) (2 ^ 64 - 1)
 
--- a count rose, or stands at its last value
+-- a count rose, or has its largest value
 abbrev pub Rose : ℕ → ℕ → Type 0
 Rose before now = raised before ≤ now
 
@@ -26,7 +26,7 @@ pub record OnlyReads {T : Type 0} (files : T → Option Files) (fetch_faults wri
   pub same_writes : write_faults new ≡ write_faults old
   pub counts : CountsFaults fetch_faults faultless old new
 
--- the counts of a shelf: how many fetches failed, and how many starts and appends
+-- the counts of a shelf on a disk: how many fetches failed, and how many starts and appends
 pub record Counts : Type 0 where
   pub fetches : ℕ
   pub writes : ℕ

@@ -1,10 +1,11 @@
--- What an output in memory holds, and what a call does to it.
+-- Only for the output in memory: what it holds, and what a call does to it.
 use Rattle.std.specs.Prelude.{◌++◌, ℕ, List, [], if◌then◌else◌, refl}
 use Rattle.std.specs.Coded.{Coded, code_by, coded×, coded_ℕ, coded_list}
 use Rattle.xif_base.specs.Faults.{raised}
 use Rattle.xif_base.specs.Calls.{CallPlan, first_call, is_failing, after_call, call_plan_code}
 
--- the bytes put so far, the most bytes that a call moves, the plan of the puts, and how many of them failed
+-- The bytes put so far, the largest number of bytes that a call moves, the plan of the puts, and
+-- how many of them failed.
 pub record OutputState : Type 0 where
   pub bytes : List ℕ
   pub grain : ℕ
@@ -15,7 +16,7 @@ pub record OutputState : Type 0 where
 abbrev pub new_output : ℕ → List ℕ → OutputState
 new_output grain puts = record { bytes = []; grain = grain; puts = first_call puts; faults = 0 }
 
--- one put later, which moved this piece: the count of faults rose where the put failed
+-- one put later, which moved this piece: the count of faults rose if the put failed
 abbrev pub after_put : OutputState → List ℕ → OutputState
 after_put s piece = record s {
   bytes = s.bytes ++ piece;

@@ -1,4 +1,4 @@
--- What a shelf in memory holds, and what its calls do to it.
+-- Only for the shelf in memory: what it holds, and what its calls do to it.
 use Rattle.std.specs.Prelude.{◌≡◌, [], ℕ, List, map, String, Vec, string_bytes, if◌then◌else◌, refl}
 use Rattle.std.specs.Coded.{Coded, code_by, coded×, coded_ℕ, coded_list}
 use Rattle.std.specs.BTreeMap.{BTreeMap}
@@ -8,7 +8,8 @@ use Rattle.xif_base.specs.Faults.{raised}
 use Rattle.xif_base.specs.Files.{Files}
 use Rattle.xif_base.specs.Calls.{CallPlan, first_call, is_failing, after_call, call_plan_code}
 
--- the files, the most bytes that a call moves, the plan of each kind of call, and how many fetches and how many writes failed
+-- The files, the largest number of bytes that a call moves, the plan of each kind of call, and how
+-- many fetches and how many writes failed.
 pub record ShelfState : Type 0 where
   pub files : Files
   pub grain : ℕ
@@ -42,15 +43,26 @@ counted plan faults = if is_failing plan then raised faults else faults
 
 -- one fetch of a file later
 abbrev pub after_fetch : ShelfState → ShelfState
-after_fetch s = record s { fetches = after_call s.fetches; fetch_faults = counted s.fetches s.fetch_faults }
+after_fetch s = record s {
+  fetches = after_call s.fetches;
+  fetch_faults = counted s.fetches s.fetch_faults;
+}
 
 -- one start later, which left these files
 abbrev pub after_start : ShelfState → Files → ShelfState
-after_start s files = record s { files = files; starts = after_call s.starts; write_faults = counted s.starts s.write_faults }
+after_start s files = record s {
+  files = files;
+  starts = after_call s.starts;
+  write_faults = counted s.starts s.write_faults;
+}
 
 -- one append to a file later, which left these files
 abbrev pub after_append : ShelfState → Files → ShelfState
-after_append s files = record s { files = files; appends = after_call s.appends; write_faults = counted s.appends s.write_faults }
+after_append s files = record s {
+  files = files;
+  appends = after_call s.appends;
+  write_faults = counted s.appends s.write_faults;
+}
 
 -- files are stored as their entries
 abbrev pub files_code : Coded Files
@@ -60,8 +72,24 @@ files_code = finite.code (coded_list coded_ℕ) (coded_list coded_ℕ)
 abbrev pub shelf_state_code : Coded ShelfState
 shelf_state_code =
     code_by (Files × (ℕ × (CallPlan × (CallPlan × (CallPlan × (ℕ × ℕ))))))
-    (coded× files_code (coded× coded_ℕ (coded× call_plan_code (coded× call_plan_code (coded× call_plan_code (coded× coded_ℕ coded_ℕ))))))
-    (λ s. (s.files, (s.grain, (s.fetches, (s.starts, (s.appends, (s.fetch_faults, s.write_faults)))))))
+    (coded× files_code (coded× coded_ℕ (coded× call_plan_code (coded× call_plan_code
+    (coded× call_plan_code (coded× coded_ℕ coded_ℕ))))))
+    (λ s. (
+      s.files,
+      (
+        s.grain,
+        (
+          s.fetches,
+          (
+            s.starts,
+            (
+              s.appends,
+              (s.fetch_faults, s.write_faults),
+            ),
+          ),
+        ),
+      ),
+    ))
     (λ t. record {
       files = t.0;
       grain = t.1.0;

@@ -2,11 +2,11 @@
 use Rattle.std.specs.Prelude.{◌≡◌, ◌≤◌, ◌++◌, ℕ, List, length, take, Option}
 use Rattle.std.specs.Option.{option_map}
 
--- the told bytes with a piece at their end; nothing where nothing is told
+-- the bytes of an output with a piece appended; nothing where the output reports nothing
 abbrev pub grown : Option (List ℕ) → List ℕ → Option (List ℕ)
-grown told piece = option_map (λ bytes. bytes ++ piece) told
+grown reported piece = option_map (λ bytes. bytes ++ piece) reported
 
--- the told bytes grew by a front of these bytes, and by no more
+-- a prefix of these bytes was appended, and no more
 pub record GrowsByFront (old new : Option (List ℕ)) (bytes : List ℕ) : Type 0 where
   pub count : ℕ
   pub within : count ≤ length bytes

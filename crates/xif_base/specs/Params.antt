@@ -18,7 +18,7 @@ pub record IsInRange (p : Params) : Type 0 where
   pub rfw_pairs : p.dual_write ≡ true → p.rfw_width ≡ 64
   pub num_harts : (1 ≤ p.num_harts) × (p.num_harts ≤ 4)
   pub hartid_width : (1 ≤ p.hartid_width) × (p.hartid_width ≤ 8)
-  -- each hart has an id
+  -- each hart has an id of its own
   pub hartids : p.num_harts ≤ 2 ^ p.hartid_width
   pub dual_read : p.dual_read ≤ p.num_rs
 
@@ -32,7 +32,8 @@ is_port_width pairs width = (width == 64) || (not pairs && (width == 32))
 abbrev pub has_hartids : ℕ → ℕ → Bool
 has_hartids width harts = within 1 8 width && nat_le harts (2 ^ width)
 
--- a line for each field that has a range, in the order of the fields: its test, and the fault where that fails
+-- A line for each field that has a range, in the order of the fields: its test, and the fault if
+-- the test fails.
 abbrev pub ranges : Params → List (Bool × ParamFault)
 ranges p =
     (within 2 3 p.num_rs, NumRs)

@@ -1,4 +1,4 @@
-// What the outside in memory and on a disk share: counts of faults, and calls that are to fail.
+//! Counts of faults, and, only for the outside in memory, the numbers of the calls that fail.
 ghost use Rattle.std.specs.Prelude.{◌≡◌, ◌≤◌, ℕ, IfOk};
 ghost use Rattle.xif_base.specs.Faults.{raised};
 ghost use Rattle.xif_base.specs.Calls.{first_call, is_failing, after_call};
@@ -7,7 +7,7 @@ use crate::NoMemory;
 use std::alloc::Global;
 use std::marker::Model;
 
-/// How many faults there were. The count stands still at its last value.
+/// How many faults there were. The count stays at its largest value, once there.
 #[derive(Drop)]
 pub(crate) struct FaultCount {
     count: u64,
@@ -61,7 +61,7 @@ impl FailingCalls {
         })
     }
 
-    /// Counts a call, and answers whether it is one that fails.
+    /// Counts a call, and returns whether it fails.
     pub(crate) fn fails(&mut self) -> bool
         ensures fails { result ≡ is_failing self.old }
         ensures counted { self.new ≡ after_call self.old }

@@ -1,5 +1,5 @@
-// The disk and the standard output. What a real file holds, and what becomes of bytes that were
-// written, is trusted to the system.
+//! The disk and the standard output. What a real file holds, and what becomes of bytes that were
+//! written, is trusted to the system.
 ghost use Rattle.std.specs.Prelude.{◌≡◌, ◌≢◌, ◌≤◌, ◌<◌, length, IfOk, MatchResult};
 ghost use Rattle.std.specs.Io.{ReadsAtMost, WritesAtMost};
 ghost use Rattle.xif_base.specs.Faults.{raised};
@@ -8,10 +8,13 @@ use crate::count::FaultCount;
 use crate::{Failed, Out, Shelf, WriteFail};
 use std::fs::{File, Files, OpenOptions};
 use std::io;
-use std::io::{Print, Read, Seek, SeekFrom, Write};
+use std::io::{ErrorKind, Print, Read, Seek, SeekFrom, Write};
 use std::marker::Model;
 
-/// The files of a disk. It tells nothing of them.
+/// How often a call is tried that a signal interrupts.
+const RETRIES: usize = 64;
+
+/// The files of a disk. It reports nothing of what they hold.
 #[derive(Drop)]
 pub struct DiskShelf<R> {
     files: R,
@@ -53,7 +56,7 @@ impl<R: Files + Drop> Shelf for DiskShelf<R> {
     fn fetch(&mut self, name: &str, at: u64, buf: &mut [u8]) -> Result<usize, Failed>
         ensures bound { ReadsAtMost result buf.new }
 
-        // The count rises at each failure, a missing file too, and only there.
+        // The count rises at each failure, and only there. A file that isn't there is one too.
         ensures counted { MatchResult result
             (λ _. self.new ≡ self.old)
             (λ _. self.new ≡ record self.old { fetches = raised self.old.fetches }) }
@@ -73,7 +76,7 @@ impl<R: Files + Drop> Shelf for DiskShelf<R> {
     }
 
     fn start(&mut self, name: &str) -> Result<(), WriteFail>
-        // The count rises at each failure, of which none is want of memory, and only there.
+        // The count rises at each failure, and only there. The call is never out of memory.
         ensures counted { MatchResult result
             (λ _. self.new ≡ self.old)
             (λ _. self.new ≡ record self.old { writes = raised self.old.writes }) }
@@ -94,7 +97,7 @@ impl<R: Files + Drop> Shelf for DiskShelf<R> {
         ensures bound { WritesAtMost result piece.now }
         ensures some { IfOk result (λ n. 0 < length piece.now → 0 < n) }
 
-        // The count rises at each failure, a missing file too, and only there.
+        // The count rises at each failure, and only there. A file that isn't there is one too.
         ensures counted { MatchResult result
             (λ _. self.new ≡ self.old)
             (λ _. self.new ≡ record self.old { writes = raised self.old.writes }) }
@@ -117,7 +120,13 @@ fn write_to<R: Files>(files: &R, name: &str, piece: &[u8]) -> io::Result<usize>
     ensures bound { WritesAtMost result piece.now }
 {
     let mut file = OpenOptions::new().append(true).open(files, name)?;
-    file.write(piece)
+    for _ in 0..RETRIES {
+        match file.write(piece) {
+            Err(error) if error.kind() == ErrorKind::Interrupted => {}
+            answer => return answer,
+        }
+    }
+    Err(ErrorKind::Interrupted.into())
 }
 
 /// Reads once from a file, which is opened anew for it.
@@ -126,10 +135,16 @@ fn read_at<R: Files>(files: &R, name: &str, at: u64, buf: &mut [u8]) -> io::Resu
 {
     let mut file = File::open(files, name)?;
     file.seek(SeekFrom::Start(at))?;
-    file.read(buf)
+    for _ in 0..RETRIES {
+        match file.read(buf) {
+            Err(error) if error.kind() == ErrorKind::Interrupted => {}
+            answer => return answer,
+        }
+    }
+    Err(ErrorKind::Interrupted.into())
 }
 
-/// The standard output. It tells nothing of what was put.
+/// The standard output. It reports nothing of what was put.
 #[derive(Drop)]
 pub struct StdOut<R> {
     rt: R,
@@ -168,14 +183,14 @@ impl<R: Print + Drop> Out for StdOut<R> {
         ensures bound { WritesAtMost result piece.now }
         ensures some { IfOk result (λ n. 0 < length piece.now → 0 < n) }
 
-        // The count rises at each failure, of which none is want of memory, and only there.
+        // The count rises at each failure, and only there. The call is never out of memory.
         ensures counted { MatchResult result
             (λ _. self.new ≡ self.old)
             (λ _. self.new ≡ raised self.old) }
         ensures count { self.old ≤ self.new }
         ensures never_memory { result ≢ Err WriteFail.NoMemory }
     {
-        match self.rt.write_some(piece) {
+        match print_some(&self.rt, piece) {
             Ok(count) if count > 0 || piece.is_empty() => Ok(count),
             _ => {
                 self.faults.raise();
@@ -183,4 +198,17 @@ impl<R: Print + Drop> Out for StdOut<R> {
             }
         }
     }
+}
+
+/// Prints once.
+fn print_some<R: Print>(rt: &R, piece: &[u8]) -> io::Result<usize>
+    ensures { WritesAtMost result piece.now }
+{
+    for _ in 0..RETRIES {
+        match rt.write_some(piece) {
+            Err(error) if error.kind() == ErrorKind::Interrupted => {}
+            answer => return answer,
+        }
+    }
+    Err(ErrorKind::Interrupted.into())
 }

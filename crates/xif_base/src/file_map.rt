@@ -1,4 +1,4 @@
-// Files in memory, by name.
+//! Files in memory, by name.
 ghost use Rattle.std.specs.Prelude.{◌≡◌, OnOk, OnErr, IsSome};
 ghost use Rattle.xif_base.specs.Files.{appended};
 ghost use Rattle.xif_base.specs.MemoryShelf.{files_of};
@@ -58,7 +58,7 @@ impl FileMap {
         Ok(())
     }
 
-    /// Adds a piece to the end of a file that is there.
+    /// Appends a piece to a file that is there.
     pub(crate) fn append(&mut self, name: &str, piece: &[u8]) -> Result<(), NoMemory>
         requires { IsSome (map.get self.old name.now) }
         ensures ok { OnOk result (self.new ≡ appended self.old name.now piece.now) }
@@ -74,7 +74,8 @@ fn append_to(
     piece: &[u8],
 ) -> Result<(), NoMemory>
     requires { IsSome (map.get (files_of files.old) name.now) }
-    ensures ok { OnOk result (files_of files.new ≡ appended (files_of files.old) name.now piece.now) }
+    ensures ok { OnOk result
+        (files_of files.new ≡ appended (files_of files.old) name.now piece.now) }
     ensures err { OnErr result (files_of files.new ≡ files_of files.old) }
 {
     match files.get_mut(name) {

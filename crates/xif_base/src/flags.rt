@@ -1,4 +1,4 @@
-// Sets of register flags. Field 0 of a set is the number that its bits make.
+//! Sets of register flags. Field 0 of a set is the number that its bits make.
 ghost use Rattle.std.specs.Prelude.{⊤, ◌≡◌, ◌<◌, ◌↔◌, [], ◌∷◌, codes, IsTrue, IsSome, IfSome};
 ghost use Rattle.std.specs.Int.RustNames.{bit_and};
 ghost use Rattle.xif_base.specs.Params.{IsInRange};
@@ -8,7 +8,7 @@ use crate::Params;
 use bitflags::{Flag, Flags, bitflag_items};
 
 /// The halves of lanes that an instruction reads (CV-X-IF 1.0.0, `register_read` of the issue
-/// response). A flag stands for 32 bits of a lane.
+/// response). A flag represents 32 bits of a lane. `even_bit` and `odd_bit` number the flags.
 #[derive(Clone, Copy, Debug, PartialEq, Eq)]
 pub struct ReadFlags(u8);
 
@@ -52,7 +52,7 @@ impl Flags for ReadFlags {
 }
 
 impl ReadFlags {
-    /// The bit that stands for the low half of a lane.
+    /// The number of the bit that represents the low half of a lane.
     pub fn even_bit(params: &Params, lane: u8) -> u8
         requires params { IsInRange params.now }
         requires lane { lane < params.now.num_rs }
@@ -61,7 +61,8 @@ impl ReadFlags {
         lane + lane.min(params.dual_read)
     }
 
-    /// The bit that stands for the high half of a lane, which only the lanes below X_DUALREAD have.
+    /// The number of the bit that represents the high half of a lane, which only the lanes below
+    /// X_DUALREAD have.
     pub fn odd_bit(params: &Params, lane: u8) -> Option<u8>
         requires params { IsInRange params.now }
         requires lane { lane < params.now.num_rs }
@@ -81,13 +82,14 @@ impl ReadFlags {
         Flags::contains(self, other)
     }
 
+    /// The number that the bits of the set make.
     pub fn bits(&self) -> u8
         ensures { result ≡ self.now.0 }
     {
         self.0
     }
 
-    /// The set with these bits: `None` exactly where a bit above 5 is set.
+    /// The set with these bits: `None` if and only if a bit above 5 is set.
     pub fn from_bits(bits: u8) -> Option<Self>
         ensures some { IsSome result ↔ (bits < 64) }
         ensures value { IfSome result (λ flags. flags.0 ≡ bits) }
@@ -97,7 +99,7 @@ impl ReadFlags {
 }
 
 /// The registers that a result writes (CV-X-IF 1.0.0, `writeback` of the issue response and `we` of
-/// the result). Bit 0 stands for rd, the even register of a pair, and bit 1 for rd + 1.
+/// the result). Bit 0 represents rd, the even register of a pair, and bit 1 rd + 1.
 #[derive(Clone, Copy, Debug, PartialEq, Eq)]
 pub struct WriteFlags(u8);
 
@@ -138,13 +140,14 @@ impl WriteFlags {
         Flags::contains(self, other)
     }
 
+    /// The number that the bits of the set make.
     pub fn bits(&self) -> u8
         ensures { result ≡ self.now.0 }
     {
         self.0
     }
 
-    /// The set with these bits: `None` exactly where a bit above 1 is set.
+    /// The set with these bits: `None` if and only if a bit above 1 is set.
     pub fn from_bits(bits: u8) -> Option<Self>
         ensures some { IsSome result ↔ (bits < 4) }
         ensures value { IfSome result (λ flags. flags.0 ≡ bits) }

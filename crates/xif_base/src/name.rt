@@ -1,4 +1,4 @@
-// Names of files and of variables.
+//! Names of files and of variables.
 ghost use Rattle.std.specs.Prelude.{◌≡◌, IfOk};
 
 use crate::NoMemory;
@@ -21,6 +21,7 @@ impl Model for Name {
 }
 
 impl Name {
+    /// A name of its own with these characters.
     pub fn of(alloc: Global, text: &str) -> Result<Name, NoMemory>
         ensures { IfOk result (λ name. name ≡ text.now) }
     {
@@ -29,6 +30,7 @@ impl Name {
         })
     }
 
+    /// The name as text.
     pub fn as_str(&self) -> &str
         ensures { result.now ≡ self.now }
     {

@@ -1,4 +1,4 @@
-// A whole file, within a limit.
+//! A whole file, within a limit.
 ghost use Rattle.std.specs.Prelude.{◌≡◌, ◌≢◌, ◌⊎◌, ◌≤◌, ◌<◌, ℕ, List, length, vec_len, IfOk};
 ghost use Rattle.xif_base.specs.Faults.{Rose, OnlyReads};
 ghost use Rattle.xif_base.specs.Files.{IsMissing, HasBytes};
@@ -9,10 +9,11 @@ use std::alloc::{AllocError, Global};
 /// Why a file was not read.
 #[derive(Clone, Copy, Debug, PartialEq, Eq)]
 pub enum ReadFail {
-    /// A fetch failed, or the file isn't there.
+    /// A fetch failed, or there is no such file.
     ReadFault,
     /// The file is longer than the limit.
     TooBig,
+    /// Out of memory.
     NoMemory,
 }
 
@@ -27,7 +28,7 @@ impl From<AllocError> for ReadFail {
     }
 }
 
-/// The most bytes that one fetch is asked for.
+/// The largest number of bytes that one fetch is asked for.
 const PIECE: usize = 65_536;
 
 /// Reads a whole file of at most `limit` bytes. At most one byte past the limit is fetched.
@@ -42,7 +43,7 @@ pub fn read_all<S: Shelf>(
         HasBytes (S.files shelf.old) name.now bytes → v.items ≡ bytes) }
     ensures within { IfOk result (λ v. vec_len v ≤ limit) }
 
-    // A read fails only where the shelf had a fault, or tells that there is no such file.
+    // A read fails only if the shelf had a fault, or reports that there is no such file.
     ensures missing { IsMissing (S.files shelf.old) name.now →
         (result ≡ Err ReadFail.ReadFault) ⊎ (result ≡ Err ReadFail.NoMemory) }
     ensures fault { result ≡ Err ReadFail.ReadFault →
@@ -50,7 +51,7 @@ pub fn read_all<S: Shelf>(
         ⊎ (IsMissing (S.files shelf.old) name.now
         × (S.fetch_faults shelf.new ≡ S.fetch_faults shelf.old)) }
 
-    // A file is too big where it is longer than the limit, and only there.
+    // A file is too big if and only if it is longer than the limit.
     ensures too_big { result ≡ Err ReadFail.TooBig → (bytes : List ℕ) →
         HasBytes (S.files shelf.old) name.now bytes → limit < length bytes }
     ensures longer { (bytes : List ℕ) →
@@ -59,12 +60,13 @@ pub fn read_all<S: Shelf>(
         ⊎ (Rose (S.fetch_faults shelf.old) (S.fetch_faults shelf.new)
         ⊎ (result ≡ Err ReadFail.NoMemory)) }
 
-    // The shelf is only read, and a fault is counted only for the answer `ReadFault`.
+    // The shelf is only read, and a fault is counted only if the read fails.
     ensures uncounted { result ≢ Err ReadFail.ReadFault →
         S.fetch_faults shelf.new ≡ S.fetch_faults shelf.old }
-    ensures only_reads { OnlyReads S.files S.fetch_faults S.write_faults S.faultless shelf.old shelf.new }
+    ensures only_reads { OnlyReads S.files S.fetch_faults S.write_faults S.faultless
+        shelf.old shelf.new }
 
-    // A shelf that says it has no faults fails only where there is no such file.
+    // A shelf that says it has no faults fails only if there is no such file.
     ensures only_missing { S.faultless shelf.old → result ≡ Err ReadFail.ReadFault →
         IsMissing (S.files shelf.old) name.now }
 {
@@ -88,7 +90,7 @@ pub fn read_all<S: Shelf>(
     }
 }
 
-/// Room for what one fetch copies.
+/// Room for the bytes of one fetch.
 fn new_room(alloc: Global) -> Result<Vec<u8>, AllocError>
     ensures { IfOk result (λ room. vec_len room ≡ PIECE) }
 {

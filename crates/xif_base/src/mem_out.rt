@@ -1,7 +1,7 @@
-// An output in memory, whose calls move as few bytes and fail as often as its owner says.
+//! An output in memory, for tests: its calls move as few bytes and fail as often as its owner says.
 ghost use Rattle.std.specs.Prelude.{◌≡◌, ◌≢◌, ◌≤◌, ◌<◌, ◌++◌, ◌↔◌, Some, [], length, take, min, IfOk, OnErr, IsErrOf, IsTrue, MatchResult};
 ghost use Rattle.std.specs.Io.{WritesAtMost};
-ghost use Rattle.xif_base.specs.Faults.{Rose};
+ghost use Rattle.xif_base.specs.Faults.{Rose, CountsFaults};
 ghost use Rattle.xif_base.specs.Calls.{is_failing};
 ghost use Rattle.xif_base.specs.MemoryOutput.{new_output, after_put};
 
@@ -10,7 +10,7 @@ use crate::{NoMemory, Out, WriteFail};
 use std::alloc::Global;
 use std::marker::Model;
 
-/// An output in memory. A put moves at most `grain` bytes.
+/// An output in memory, for tests. A put moves at most `grain` bytes.
 #[derive(Drop)]
 pub struct MemOut {
     bytes: Vec<u8>,
@@ -67,10 +67,11 @@ impl Out for MemOut {
     ghost faultless = { λ s. s.puts.failing ≡ [] };
 
     fn put(&mut self, piece: &[u8]) -> Result<usize, WriteFail>
-        // A put fails exactly where its number is listed, and the count rises there.
+        // A put fails if and only if its number is listed, and the count rises there.
         ensures fails { (result ≡ Err WriteFail.Failed) ↔ IsTrue (is_failing self.old.puts) }
 
-        // It moves what the grain allows. A put that finds no memory has a number too, and is no fault.
+        // It moves what the grain allows. A put that is out of memory has a number too, and is no
+        // fault.
         ensures moved { IfOk result (λ n. n ≡ min self.old.grain (length piece.now)) }
         ensures counted { MatchResult result
             (λ n. self.new ≡ after_put self.old (take n piece.now))
@@ -83,9 +84,8 @@ impl Out for MemOut {
             (λ n. self.new.bytes ≡ self.old.bytes ++ take n piece.now)
             (λ _. self.new.bytes ≡ self.old.bytes) }
         ensures failed { IsErrOf result WriteFail.Failed → Rose self.old.faults self.new.faults }
-        ensures count { self.old.faults ≤ self.new.faults }
-        ensures stays_faultless { self.old.puts.failing ≡ [] → self.new.puts.failing ≡ [] }
-        ensures no_fault { self.old.puts.failing ≡ [] → self.new.faults ≡ self.old.faults }
+        ensures uncounted { result ≢ Err WriteFail.Failed → self.new.faults ≡ self.old.faults }
+        ensures counts { CountsFaults (λ s. s.faults) (λ s. s.puts.failing ≡ []) self.old self.new }
         ensures only_memory { self.old.puts.failing ≡ [] → result ≢ Err WriteFail.Failed }
     {
         if self.puts.fails() {

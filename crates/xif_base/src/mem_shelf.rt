@@ -1,9 +1,9 @@
-// A shelf in memory, whose calls move as few bytes and fail as often as its owner says.
+//! A shelf in memory, for tests: its calls move as few bytes and fail as often as its owner says.
 ghost use Rattle.std.specs.Prelude.{◌≡◌, ◌≢◌, ◌≤◌, ◌<◌, ◌-◌, ◌++◌, ◌↔◌, ◌⊎◌, ℕ, List, [], Some, None, length, take, drop, min, IfOk, OnOk, OnErr, IsErr, IsErrOf, IsSome, IsTrue, MatchResult};
 ghost use Rattle.std.specs.Io.{ReadsAtMost, WritesAtMost};
 ghost use Rattle.std.specs.Option.{option_map};
 ghost use Rattle.std.specs.FinMap as map;
-ghost use Rattle.xif_base.specs.Faults.{Rose};
+ghost use Rattle.xif_base.specs.Faults.{Rose, CountsFaults, OnlyReads};
 ghost use Rattle.xif_base.specs.Files.{IsMissing, HasBytes, Copies, appended, Becomes};
 ghost use Rattle.xif_base.specs.Calls.{is_failing};
 ghost use Rattle.xif_base.specs.MemoryShelf.{new_shelf, IsFaultless, after_fetch, after_start, after_append};
@@ -14,7 +14,7 @@ use crate::{Failed, NoMemory, Shelf, WriteFail};
 use std::alloc::Global;
 use std::marker::Model;
 
-/// Files in memory. A fetch or an append moves at most `grain` bytes.
+/// Files in memory, for tests. A fetch or an append moves at most `grain` bytes.
 #[derive(Drop)]
 pub struct MemShelf {
     files: FileMap,
@@ -48,8 +48,8 @@ impl Model for MemShelf {
 }
 
 impl MemShelf {
-    /// A shelf with no files. The three lists have the numbers, from 0, of the calls of each kind that
-    /// fail. A fetch or an append of a file that isn't there has no number.
+    /// A shelf with no files. The three lists have the numbers, from 0, of the calls of each kind
+    /// that fail. A fetch or an append of a file that isn't there has no number.
     pub fn new(
         alloc: Global,
         grain: usize,
@@ -80,7 +80,7 @@ impl MemShelf {
         self.files.insert(name, bytes)
     }
 
-    /// The bytes of a file, and `None` where there is no such file.
+    /// The bytes of a file, and `None` if there is no such file.
     pub fn bytes(&self, name: &str) -> Option<&[u8]>
         ensures { option_map (λ bytes. bytes.now) result ≡ map.get self.now.files name.now }
     {
@@ -102,12 +102,13 @@ impl Shelf for MemShelf {
         ensures absent { map.get self.old.files name.now ≡ None → IsErr result }
         ensures absent_stays { map.get self.old.files name.now ≡ None → self.new ≡ self.old }
 
-        // A fetch of a file fails exactly where its number is listed, and the count rises there.
+        // A fetch of a file fails if and only if its number is listed, and the count rises there.
         ensures fails { IsSome (map.get self.old.files name.now) →
             (IsErr result ↔ IsTrue (is_failing self.old.fetches)) }
-        ensures counted { IsSome (map.get self.old.files name.now) → self.new ≡ after_fetch self.old }
+        ensures counted { IsSome (map.get self.old.files name.now) →
+            self.new ≡ after_fetch self.old }
 
-        // It moves what the grain, the buffer and the file allow, and leaves the rest of the buffer.
+        // It moves what the grain, the buffer and the file allow. The rest of the buffer stays.
         ensures moved { IfOk result (λ n. (bytes : List ℕ) →
             map.get self.old.files name.now ≡ Some bytes →
             n ≡ min self.old.grain (min (length buf.old) (length bytes - at))) }
@@ -124,12 +125,11 @@ impl Shelf for MemShelf {
         ensures failed { OnErr result (Rose self.old.fetch_faults self.new.fetch_faults
             ⊎ (IsMissing (Some self.old.files) name.now
             × (self.new.fetch_faults ≡ self.old.fetch_faults))) }
-        ensures count { self.old.fetch_faults ≤ self.new.fetch_faults }
-        ensures writes { self.new.write_faults ≡ self.old.write_faults }
-        ensures files { self.new.files ≡ self.old.files }
-        ensures stays_faultless { IsFaultless self.old → IsFaultless self.new }
-        ensures no_fault { IsFaultless self.old → self.new.fetch_faults ≡ self.old.fetch_faults }
-        ensures only_missing { IsFaultless self.old → OnErr result (IsMissing (Some self.old.files) name.now) }
+        ensures uncounted { OnOk result (self.new.fetch_faults ≡ self.old.fetch_faults) }
+        ensures only_reads { OnlyReads (λ s. Some s.files)
+            (λ s. s.fetch_faults) (λ s. s.write_faults) IsFaultless self.old self.new }
+        ensures only_missing { IsFaultless self.old →
+            OnErr result (IsMissing (Some self.old.files) name.now) }
     {
         let Some(bytes) = self.files.get(name) else {
             return Err(Failed);
@@ -142,8 +142,8 @@ impl Shelf for MemShelf {
     }
 
     fn start(&mut self, name: &str) -> Result<(), WriteFail>
-        // A start fails exactly where its number is listed, and the count rises there. One that finds
-        // no memory has a number too, and is no fault.
+        // A start fails if and only if its number is listed, and the count rises there. One that is
+        // out of memory has a number too, and is no fault.
         ensures fails { (result ≡ Err WriteFail.Failed) ↔ IsTrue (is_failing self.old.starts) }
         ensures counted { MatchResult result
             (λ _. self.new ≡ after_start self.old (map.insert self.old.files name.now []))
@@ -151,13 +151,15 @@ impl Shelf for MemShelf {
 
         // What every shelf does.
         ensures files { MatchResult result
-            (λ _. Becomes (Some self.old.files) (Some self.new.files) (λ m. map.insert m name.now []))
+            (λ _. Becomes (Some self.old.files) (Some self.new.files)
+            (λ m. map.insert m name.now []))
             (λ _. self.new.files ≡ self.old.files) }
-        ensures failed { IsErrOf result WriteFail.Failed → Rose self.old.write_faults self.new.write_faults }
-        ensures count { self.old.write_faults ≤ self.new.write_faults }
+        ensures failed { IsErrOf result WriteFail.Failed →
+            Rose self.old.write_faults self.new.write_faults }
+        ensures uncounted { result ≢ Err WriteFail.Failed →
+            self.new.write_faults ≡ self.old.write_faults }
+        ensures counts { CountsFaults (λ s. s.write_faults) IsFaultless self.old self.new }
         ensures fetches { self.new.fetch_faults ≡ self.old.fetch_faults }
-        ensures stays_faultless { IsFaultless self.old → IsFaultless self.new }
-        ensures no_fault { IsFaultless self.old → self.new.write_faults ≡ self.old.write_faults }
         ensures only_memory { IsFaultless self.old → result ≢ Err WriteFail.Failed }
     {
         if self.starts.fails() {
@@ -175,29 +177,34 @@ impl Shelf for MemShelf {
         ensures absent { map.get self.old.files name.now ≡ None → result ≡ Err WriteFail.Failed }
         ensures absent_stays { map.get self.old.files name.now ≡ None → self.new ≡ self.old }
 
-        // An append to a file fails exactly where its number is listed, and the count rises there. One
-        // that finds no memory has a number too, and is no fault.
+        // An append to a file fails if and only if its number is listed, and the count rises there.
+        // One that is out of memory has a number too, and is no fault.
         ensures fails { IsSome (map.get self.old.files name.now) →
             ((result ≡ Err WriteFail.Failed) ↔ IsTrue (is_failing self.old.appends)) }
         ensures moved { IfOk result (λ n. n ≡ min self.old.grain (length piece.now)) }
         ensures counted { IsSome (map.get self.old.files name.now) → MatchResult result
-            (λ n. self.new ≡ after_append self.old (appended self.old.files name.now (take n piece.now)))
+            (λ n. self.new
+            ≡ after_append self.old (appended self.old.files name.now (take n piece.now)))
             (λ _. self.new ≡ after_append self.old self.old.files) }
 
         // What every shelf does.
         ensures bound { WritesAtMost result piece.now }
         ensures some { IfOk result (λ n. 0 < length piece.now → 0 < n) }
         ensures files { MatchResult result
-            (λ n. Becomes (Some self.old.files) (Some self.new.files) (λ m. appended m name.now (take n piece.now)))
+            (λ n. Becomes (Some self.old.files) (Some self.new.files)
+            (λ m. appended m name.now (take n piece.now)))
             (λ _. self.new.files ≡ self.old.files) }
         ensures missing { IsMissing (Some self.old.files) name.now → IsErr result }
-        ensures failed { IsErrOf result WriteFail.Failed → Rose self.old.write_faults self.new.write_faults
-            ⊎ (IsMissing (Some self.old.files) name.now × (self.new.write_faults ≡ self.old.write_faults)) }
-        ensures count { self.old.write_faults ≤ self.new.write_faults }
+        ensures failed { IsErrOf result WriteFail.Failed →
+            Rose self.old.write_faults self.new.write_faults
+            ⊎ (IsMissing (Some self.old.files) name.now
+            × (self.new.write_faults ≡ self.old.write_faults)) }
+        ensures uncounted { result ≢ Err WriteFail.Failed →
+            self.new.write_faults ≡ self.old.write_faults }
+        ensures counts { CountsFaults (λ s. s.write_faults) IsFaultless self.old self.new }
         ensures fetches { self.new.fetch_faults ≡ self.old.fetch_faults }
-        ensures stays_faultless { IsFaultless self.old → IsFaultless self.new }
-        ensures no_fault { IsFaultless self.old → self.new.write_faults ≡ self.old.write_faults }
-        ensures only_missing { IsFaultless self.old → result ≡ Err WriteFail.Failed → IsMissing (Some self.old.files) name.now }
+        ensures only_missing { IsFaultless self.old → result ≡ Err WriteFail.Failed →
+            IsMissing (Some self.old.files) name.now }
     {
         if self.files.get(name).is_none() {
             return Err(WriteFail::Failed);
@@ -214,7 +221,7 @@ impl Shelf for MemShelf {
     }
 }
 
-/// Copies what fits of the bytes from an offset on, and answers how many bytes that is.
+/// Copies what fits of the bytes from an offset on, and returns how many bytes that is.
 fn copy_front(bytes: &[u8], at: u64, grain: usize, buf: &mut [u8]) -> usize
     ensures count { result ≡ min grain (min (length buf.old) (length bytes.now - at)) }
     ensures copied { buf.new ≡ take result (drop at bytes.now) ++ drop result buf.old }
