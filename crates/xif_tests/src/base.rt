@@ -1,9 +1,10 @@
-// Files and outputs: each public call on its happy path, and the calls that are to fail. And parameters and flags.
+//! Files and outputs: each public call on its happy path, and the calls that fail. And parameters,
+//! flags, names and keys.
 use std::fs;
 use std::test::Fail;
 use xif_base::{
     DiskShelf, Failed, Key, MemOut, MemShelf, Name, Out, ParamFault, Params, ReadFail, ReadFlags,
-    Shelf, StdOut, WriteFail, WriteFlags, put_all, read_all,
+    Shelf, StdOut, WriteFail, WriteFlags, ones_below, put_all, read_all,
 };
 
 const LETTERS: &[u8] = b"abcdefg";
@@ -42,7 +43,7 @@ fn a_shelf_in_memory_fails_by_number_and_moves_by_its_grain(rt: HostRuntime) -> 
 fn a_shelf_in_memory_is_written(rt: HostRuntime) -> Result<(), Fail> {
     let mut shelf = MemShelf::new(rt.alloc(), 3, &[], &[1], &[2])?;
     shelf.insert("digits", b"0")?;
-    // A start where there is no piece, else an append; its answer, and the file after it.
+    // A start if there is no piece, else an append; its result, and the file after it.
     let cases: [(Option<&[u8]>, Result<usize, WriteFail>, Option<&[u8]>); 7] = [
         (Some(b"ab"), Err(WriteFail::Failed), None),
         (None, Ok(0), Some(b"")),
@@ -87,7 +88,7 @@ fn a_file_is_read_whole_within_its_limit(rt: HostRuntime) -> Result<(), Fail> {
 }
 
 #[test]
-fn all_bytes_are_put_or_a_front_of_them(rt: HostRuntime) -> Result<(), Fail> {
+fn all_bytes_are_put_or_a_prefix_of_them(rt: HostRuntime) -> Result<(), Fail> {
     let cases: [(&[u64], Result<(), WriteFail>, &[u8]); 4] = [
         (&[], Ok(()), LETTERS),
         (&[0], Err(WriteFail::Failed), b""),
@@ -103,27 +104,29 @@ fn all_bytes_are_put_or_a_front_of_them(rt: HostRuntime) -> Result<(), Fail> {
 }
 
 #[test]
-fn a_shelf_on_disk_writes_and_reads_a_file_and_misses_one(rt: HostRuntime) -> Result<(), Fail> {
+fn a_shelf_on_disk_empties_a_file_and_writes_it(rt: HostRuntime) -> Result<(), Fail> {
     let path = "/tmp/xif_tests_a_shelf_on_disk";
     let mut shelf = DiskShelf::new(&rt);
-    assert_eq!(rt; shelf.append(path, LETTERS), Err(WriteFail::Failed));
-    assert_eq!(rt; shelf.start(path), Ok(()));
-    assert_eq!(rt; shelf.append(path, &LETTERS[..3]), Ok(3));
-    assert_eq!(rt; shelf.append(path, &LETTERS[3..]), Ok(4));
-    let read = read_all(rt.alloc(), &mut shelf, path, 7);
-    let mut buf = [b'.'; 2];
-    let part = shelf.fetch(path, 4, &mut buf);
+    for piece in [b"0123".as_slice(), LETTERS] {
+        assert_eq!(rt; shelf.start(path), Ok(()));
+        assert_eq!(rt; shelf.append(path, piece), Ok(piece.len()));
+    }
+    let mut buf = [b'.'; 8];
+    let count = shelf.fetch(path, 3, &mut buf);
     fs::remove_file(&rt, path)?;
-    assert_eq!(rt; read?.as_slice(), LETTERS);
-    assert_eq!(rt; part, Ok(2));
-    assert_eq!(rt; &buf, b"ef");
-    assert_eq!(rt; shelf.fetch(path, 0, &mut buf), Err(Failed));
-    assert_eq!(rt; shelf.fetch(path, 0, &mut []), Ok(0));
-    assert_eq!(rt;
-        shelf.start("/no such folder/letters"),
-        Err(WriteFail::Failed)
-    );
+    assert_eq!(rt; count, Ok(4));
+    assert_eq!(rt; &buf, b"defg....");
     Ok(())
+}
+
+#[test]
+fn a_shelf_on_disk_misses_a_file(rt: HostRuntime) {
+    let path = "/no such folder/letters";
+    let mut shelf = DiskShelf::new(&rt);
+    assert_eq!(rt; shelf.fetch(path, 0, &mut [b'.'; 2]), Err(Failed));
+    assert_eq!(rt; shelf.fetch(path, 0, &mut []), Ok(0));
+    assert_eq!(rt; shelf.start(path), Err(WriteFail::Failed));
+    assert_eq!(rt; shelf.append(path, LETTERS), Err(WriteFail::Failed));
 }
 
 #[test]
@@ -246,7 +249,7 @@ const CHECKS: [(Params, Result<(), ParamFault>); 18] = [
         Err(ParamFault::HartidWidth),
     ),
     (Params { num_rs: 2, ..MOST }, Err(ParamFault::DualRead)),
-    // Three faults, of which the first is told.
+    // Three faults, of which the first is reported.
     (WIDE, Err(ParamFault::RfrWidth)),
     (
         Params {
@@ -265,41 +268,75 @@ fn parameters_are_checked_in_the_order_of_their_fields(rt: HostRuntime) {
 }
 
 #[test]
-fn flags_keys_and_names(rt: HostRuntime) -> Result<(), Fail> {
+fn halves_of_lanes_have_bits(rt: HostRuntime) {
     let params = Params {
-        num_rs: 3,
-        id_width: 3,
-        rfr_width: 64,
-        rfw_width: 32,
-        num_harts: 1,
-        hartid_width: 1,
         dual_read: 2,
-        dual_write: false,
-        split: true,
+        ..MOST
     };
     for (lane, even, odd) in [(0, 0, Some(1)), (1, 2, Some(3)), (2, 4, None)] {
         assert_eq!(rt; ReadFlags::even_bit(&params, lane), even, "at {lane}");
         assert_eq!(rt; ReadFlags::odd_bit(&params, lane), odd, "at {lane}");
     }
-    for bits in [0, 1, 2, 3, 4, 63, 64, 255] {
-        let reads = ReadFlags::from_bits(bits);
-        let writes = WriteFlags::from_bits(bits);
+}
+
+#[test]
+fn sets_of_flags_are_made_of_known_bits(rt: HostRuntime) {
+    let cases = [
+        (0, Some(0), Some(0)),
+        (1, Some(1), Some(1)),
+        (3, Some(3), Some(3)),
+        (4, Some(4), None),
+        (63, Some(63), None),
+        (64, None, None),
+        (255, None, None),
+    ];
+    for (bits, reads, writes) in cases {
         assert_eq!(rt;
-            reads.map(|set| set.bits()),
-            if bits < 64 { Some(bits) } else { None }
+            ReadFlags::from_bits(bits).map(|set| set.bits()),
+            reads,
+            "at {bits}"
         );
         assert_eq!(rt;
-            writes.map(|set| set.bits()),
-            if bits < 4 { Some(bits) } else { None }
+            WriteFlags::from_bits(bits).map(|set| set.bits()),
+            writes,
+            "at {bits}"
         );
     }
-    assert!(rt; ReadFlags::BIT5.contains(ReadFlags::BIT5));
-    assert!(rt; !ReadFlags::BIT5.contains(ReadFlags::BIT4));
-    assert!(rt; (WriteFlags::RD | WriteFlags::NEXT).contains(WriteFlags::NEXT));
-    assert!(rt; !WriteFlags::RD.contains(WriteFlags::NEXT));
+}
+
+#[test]
+fn sets_of_flags_contain_flags(rt: HostRuntime) {
+    let reads = ReadFlags::BIT1 | ReadFlags::BIT5;
+    for (flag, want) in [(ReadFlags::BIT5, true), (ReadFlags::BIT4, false)] {
+        assert_eq!(rt; reads.contains(flag), want, "{flag:?}");
+    }
+    for (set, want) in [
+        (WriteFlags::RD, false),
+        (WriteFlags::RD | WriteFlags::NEXT, true),
+    ] {
+        assert_eq!(rt; set.contains(WriteFlags::NEXT), want, "{set:?}");
+    }
+}
+
+#[test]
+fn the_lowest_bits_are_ones(rt: HostRuntime) {
+    for (count, want) in [
+        (0, 0),
+        (1, 1),
+        (12, 0xfff),
+        (63, u64::MAX >> 1),
+        (64, u64::MAX),
+    ] {
+        assert_eq!(rt; ones_below(count), want, "at {count}");
+    }
+}
+
+#[test]
+fn names_and_keys(rt: HostRuntime) -> Result<(), Fail> {
     assert_eq!(rt; Name::of(rt.alloc(), "job.toml")?.as_str(), "job.toml");
     let key = Key { hart: 0, id: 1 };
-    assert_eq!(rt; key, Key { hart: 0, id: 1 });
-    assert!(rt; key != Key { hart: 1, id: 1 });
+    for (other, want) in [(key, true), (Key { hart: 1, id: 1 }, false)] {
+        assert_eq!(rt; key == other, want, "{other:?}");
+    }
     Ok(())
 }
