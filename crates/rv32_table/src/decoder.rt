@@ -1,13 +1,13 @@
 //! From a word to its instruction, by the fields of the word.
 ghost use Rattle.std.specs.Prelude.{◌≡◌, ◌<◌, ◌^◌, IfSome};
-ghost use Rattle.rv32_table.specs.Table.{line, IType, SType, BType, JType};
-ghost use Rattle.rv32_table.specs.Word.{sign_extended};
+ghost use Rattle.rv32_table.specs.Table.{row_line, IType, SType, BType, JType};
 ghost use Rattle.rv32_table.specs.Instr.{decoded, row_of, immediate_of, NamesRegisters};
 ghost use Rattle.rv32_table.specs.Fields.{row_of_fields};
 
 use crate::fields::{rd_field, rs_field};
 use crate::instr::Instr;
 use crate::rows::Row;
+use crate::word::sign_extend;
 
 /// The instruction that a word is: `None` exactly where no row of the table matches.
 pub fn decode(word: u32) -> Option<Instr>
@@ -114,7 +114,7 @@ fn row_by_fields(opcode: u32, funct3: u32, funct7: u32, word: u32) -> Option<Row
 
 /// The immediate of a word that is of this row.
 fn immediate(row: Row, word: u32) -> u32
-    ensures { result ≡ immediate_of (line row).format word }
+    ensures { result ≡ immediate_of (row_line row).format word }
 {
     match row {
         Row::Lui | Row::Auipc => (word >> 12) << 12,
@@ -155,18 +155,4 @@ fn jump_offset(word: u32) -> u32
         high + (((word >> 20) & 1) << 11) + (((word >> 21) & 0x3ff) << 1),
         21,
     )
-}
-
-/// A number of so many bits, its top bit copied up to bit 31.
-fn sign_extend(value: u32, width: u32) -> u32
-    requires few { 0 < width }
-    requires most { width < 32 }
-    requires fits { value < 2 ^ width }
-    ensures { result ≡ sign_extended width value }
-{
-    if value < 1 << (width - 1) {
-        value
-    } else {
-        value + (u32::MAX - (1 << width) + 1)
-    }
 }

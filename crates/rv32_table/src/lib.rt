@@ -2,7 +2,7 @@
 //! does (RISC-V Unprivileged ISA, version 20191213, chapters 2 and 7).
 //!
 //! The layer above uses `decode`, the calls on `Instr`, then `alu`, `branch` or `access` by the kind,
-//! and the fields of any word. The table itself, a line a row, is `line` in specs/Table.antt; what the
+//! and the fields of any word. The table itself, a line a row, is `row_line` in specs/Table.antt; what the
 //! calls answer by it is in specs/Instr.antt. laws.rt has what holds of the table.
 #![tactic(auto)]
 
@@ -14,6 +14,7 @@ mod instr;
 pub mod laws;
 mod memory;
 mod rows;
+mod word;
 
 pub use arithmetic::alu;
 pub use control::{Next, branch};
@@ -22,3 +23,4 @@ pub use fields::{rd_field, rs_field};
 pub use instr::{Access, Instr, Kind};
 pub use memory::access;
 pub use rows::Row;
+pub use word::sign_extend;
