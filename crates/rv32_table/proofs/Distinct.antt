@@ -31,7 +31,7 @@ apart-matches w l m h k =
     ap not (eq-eqb (bit_and l.matched m.mask) (bit_and m.matched l.mask) same)
 
 -- what a test of the list says of each row
-passes : (p : Row → Bool) → list_all p rows ≡ true → (r : Row) → p r ≡ true
+pub passes : (p : Row → Bool) → list_all p rows ≡ true → (r : Row) → p r ≡ true
 passes p h r = All-contains (λ r. p r ≡ true) rows r (AllPass-from_list_all p rows h) (listed r)
 
 abbrev distinct : Row → Row → Bool

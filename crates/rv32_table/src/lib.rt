@@ -1,9 +1,10 @@
-//! The instruction table of RV32IM: which instruction a word is, what it reads and writes, and what it
-//! does (RISC-V Unprivileged ISA, version 20191213, chapters 2 and 7).
+//! The instruction table of RV32IM: which instruction a word is, what it reads and writes, and what
+//! it does (RISC-V Unprivileged ISA, version 20191213, chapters 2 and 7).
 //!
-//! The layer above uses `decode`, the calls on `Instr`, then `alu`, `branch` or `access` by the kind,
-//! and the fields of any word. The table itself, a line a row, is `row_line` in specs/Table.antt; what the
-//! calls answer by it is in specs/Instr.antt. laws.rt has what holds of the table.
+//! The layer above uses `decode`, the calls on `Instr`, then `alu`, `branch` or `access` by the
+//! kind, the fields of any word, and `sign_extend`. The table itself, a line a row, is `row_line` in
+//! specs/Table.antt; what the calls return by it is in specs/Instr.antt. laws.rt has what holds of
+//! the table: each word is of one row, and the columns for registers are those of the formats.
 #![tactic(auto)]
 
 mod arithmetic;
