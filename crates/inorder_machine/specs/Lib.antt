@@ -3,3 +3,4 @@ pub mod Units
 pub mod Machine
 pub mod Lines
 pub mod After
+pub mod Registers
