@@ -16,6 +16,8 @@ use xif_image::{MemFault, Memory};
 pub fn execute(memory: &Memory, pc: u32, word: u32, instr: &Instr, a: u32, b: u32) -> Stepped
     ensures outcome { let at : At = record { pc = pc; word = word } in
         result ≡ executed memory.now at instr.now a b }
+
+    // Its line names registers other than x0, and its store can be done.
     ensures line { NamesRegisters instr.now → IfRetired result (IsLine memory.now) }
 {
     match instr.kind() {

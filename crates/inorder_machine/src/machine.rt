@@ -36,22 +36,34 @@ impl Model for Machine {
 
     ghost Value = { State };
 
-    ghost view = { λ m. record { pc = m.pc; registers = m.registers; memory = m.memory; units = m.units } };
+    ghost view = { λ m. record {
+      pc = m.pc;
+      registers = m.registers;
+      memory = m.memory;
+      units = m.units;
+    } };
 
     ghost invariant = { λ m. slice_index m.registers 0 ≡ 0 };
 }
 
-/// How far a run came. Without a stop it came as far as it was to.
+/// How far a run came.
 #[derive(Clone, Copy, Debug, PartialEq, Eq)]
 pub struct Advanced {
+    /// How many instructions retired.
     pub retired: u64,
+    /// What stopped the machine. `None` where the run ended by its budget.
     pub stop: Option<StopCause>,
 }
 
 impl Machine {
     /// Begins at the address `entry`, with all registers 0.
     pub fn new(memory: Memory, entry: u32, state: UnitState) -> Machine
-        ensures { result ≡ record { pc = entry; registers = replicate 32 0; memory = memory; units = state } }
+        ensures { result ≡ record {
+          pc = entry;
+          registers = replicate 32 0;
+          memory = memory;
+          units = state;
+        } }
     {
         Machine {
             pc: entry,
@@ -61,8 +73,8 @@ impl Machine {
         }
     }
 
-    /// Executes the next instruction. One that doesn't retire changes nothing. A word that RV32IM
-    /// leaves open is offered to the units of `set`.
+    /// Executes the next instruction. One that doesn't retire changes nothing. A word that is no
+    /// instruction of RV32IM is offered to the units of `set`.
     pub fn step(&mut self, set: &Set, params: &Params) -> Stepped
         requires lawful { IsLawful set.now }
         requires params { IsInRange params.now }
@@ -82,7 +94,8 @@ impl Machine {
         }
     }
 
-    /// Steps until `n` instructions retired, or one stops the machine.
+    /// Steps until `n` instructions retired, or one stops the machine. The one that stops it is not
+    /// counted.
     pub fn advance(&mut self, set: &Set, params: &Params, n: u64) -> Advanced
         requires lawful { IsLawful set.now }
         requires params { IsInRange params.now }
