@@ -5,13 +5,13 @@ use Rattle.inorder_machine.specs.declared.line.Stepped.{Stepped}
 use Rattle.inorder_machine.specs.declared.line.Stepped.TheVariants.{Retired, Stop}
 use Rattle.inorder_machine.specs.Machine.{Extension, State, next_step, taken}
 
-abbrev pub next_by : Extension → State → Stepped → Option State
-next_by x s (Retired l) = Some (taken x s l)
-next_by x s (Stop cause) = None
+abbrev pub state_if_retired : Extension → State → Stepped → Option State
+state_if_retired x s (Retired l) = Some (taken x s l)
+state_if_retired x s (Stop cause) = None
 
 -- the state after the next instruction, if it retires
 abbrev pub next_state : Extension → State → Option State
-next_state x s = next_by x s (next_step x s)
+next_state x s = state_if_retired x s (next_step x s)
 
 -- the state after so many retirements, if none of these steps stops
 abbrev pub after : Extension → ℕ → State → Option State

@@ -60,15 +60,15 @@ DecodedReads x word register (Some i) =
     ((sources_of i).0 ≡ Some register) ⊎ ((sources_of i).1 ≡ Some register)
 
 -- a word reads a register: as a source of an instruction of RV32IM, or by a half that its entry reads
-abbrev pub Reads : Extension → ℕ → ℕ → Type 0
-Reads x word register = DecodedReads x word register (decoded word)
+abbrev pub ReadsRegister : Extension → ℕ → ℕ → Type 0
+ReadsRegister x word register = DecodedReads x word register (decoded word)
 
 -- two states are the same but in registers that a word doesn't read
 pub record SameFor (x : Extension) (word : ℕ) (s t : State) : Type 0 where
   pub pc : t.pc ≡ s.pc
   pub memory : t.memory ≡ s.memory
   pub units : t.units ≡ s.units
-  pub registers : (i : ℕ) → Reads x word i → register_of t i ≡ register_of s i
+  pub registers : (i : ℕ) → ReadsRegister x word i → register_of t i ≡ register_of s i
 
 -- 32 registers, the first of which is 0
 pub record IsFile (registers : List ℕ) : Type 0 where
