@@ -1,1 +1,5 @@
 pub mod Retirements
+pub mod Places
+pub mod Written
+pub mod Unread
+pub mod Halves

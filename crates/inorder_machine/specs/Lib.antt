@@ -1,3 +1,6 @@
+pub mod Execute
+pub mod Units
 pub mod Machine
 pub mod Lines
 pub mod After
+pub mod Registers

@@ -1,6 +1,6 @@
 use Rattle.std.proofs.Common.{◌≡◌, ap, sym, ◌∙◌, arith, None, Some}
 use Rattle.inorder_machine.specs.Machine.{Extension}
-use Rattle.inorder_machine.specs.After.{after, next_by, stop_of}
+use Rattle.inorder_machine.specs.After.{after, state_if_retired, stop_of}
 use Rattle.inorder_machine.proofs.Retirements.{Ends, after-more, ends-full, ends-early}
 use Rattle.inorder_machine.proofs.machine.Machine.advance.Goals as goal
 
@@ -8,7 +8,7 @@ stopped : (c : goal.In-Stop) → let x : Extension = record { set = c.args.set.n
 stopped c =
     let x : Extension = record { set = c.args.set.now; params = c.args.params.now } in
     let was = sym c.in-Stop.ensures.outcome in
-    let e = ends-early x c.args.n c.loop-retired.retired c.args.self.now c.loop-retired.self c.loop-retired.invariant.reached (ap (next_by x c.loop-retired.self) was) c.loop-retired-test.true in
+    let e = ends-early x c.args.n c.loop-retired.retired c.args.self.now c.loop-retired.self c.loop-retired.invariant.reached (ap (state_if_retired x c.loop-retired.self) was) c.loop-retired-test.true in
     record { retired = e.retired; last = e.last; stop_is = sym (ap stop_of was) ∙ e.stop_is }
 
 full : (c : goal.After-loop-retired) → let x : Extension = record { set = c.args.set.now; params = c.args.params.now } in Ends x c.args.n c.args.n c.args.self.now c.loop-retired.self None
@@ -22,9 +22,9 @@ loop-retired-preserved c =
     let x : Extension = record { set = c.args.set.now; params = c.args.params.now } in
     record {
       reached = after-more x c.loop-retired.retired c.args.self.now c.loop-retired.self c.loop-retired.invariant.reached
-          ∙ ap (next_by x c.loop-retired.self) (sym c.in-Retired.ensures.outcome)
-          ∙ ap Some (sym c.in-Retired.ensures.state);
-      units = c.in-Retired.ensures.units;
+          ∙ ap (state_if_retired x c.loop-retired.self) (sym c.in_default.ensures.outcome)
+          ∙ ap Some (sym c.in_default.ensures.state);
+      units = c.in_default.ensures.units;
     }
 
 pub returns-clause-retired : goal.returns-clause-retired
