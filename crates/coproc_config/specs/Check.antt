@@ -7,7 +7,7 @@ use Rattle.coproc_config.specs.declared.operation.Names.TheVariants as names
 use Rattle.coproc_config.specs.declared.check.SetFault.{SetFault}
 use Rattle.coproc_config.specs.declared.check.SetCause.{SetCause}
 use Rattle.coproc_config.specs.declared.check.SetCause.TheVariants.{TooManyUnits, TooManyEntries, BadMask, BadAccumulator, BadField}
-use Rattle.coproc_config.specs.Table.{line}
+use Rattle.coproc_config.specs.Table.{operation_line}
 use Rattle.coproc_config.specs.Set.{UnitTable, Place, places}
 
 abbrev pub fault : SetCause → ℕ → ℕ → SetFault
@@ -36,8 +36,14 @@ unit_checks unit =
 abbrev pub entry_checks : Place → List (Bool × SetFault)
 entry_checks place =
     (bit_and place.row.matched place.row.mask == place.row.matched, fault BadMask place.unit place.entry)
-    ∷ (has_accumulator (line place.row.op).names place.row.acc place.accumulators, fault BadAccumulator place.unit place.entry)
-    ∷ (has_field (line place.row.op).names place.row.low place.row.len, fault BadField place.unit place.entry)
+    ∷ (
+      has_accumulator (operation_line place.row.op).names place.row.acc place.accumulators,
+      fault BadAccumulator place.unit place.entry,
+    )
+    ∷ (
+      has_field (operation_line place.row.op).names place.row.low place.row.len,
+      fault BadField place.unit place.entry,
+    )
     ∷ []
 
 abbrev pub size_checks : List UnitTable → List (Bool × SetFault)

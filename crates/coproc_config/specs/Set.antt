@@ -1,4 +1,4 @@
--- A set of units, and the accumulators of a state.
+-- Sets of units: the entries of each unit, and the places of all entries in their order.
 use Rattle.std.specs.Prelude.{◌++◌, ◌-◌, ℕ, List, [], ◌∷◌, length, map, slice_set, slice_index_or}
 use Rattle.std.specs.List.{flat_map, enumerate_from}
 use Rattle.coproc_config.specs.declared.operation.Entry.{Entry}

@@ -1,4 +1,4 @@
-// The checks of a set.
+//! The checks of a set, which a set has to pass before it is used.
 ghost use Rattle.std.specs.Prelude.{◌≡◌, ◌≤◌, ◌↔◌, ◌+◌, ◌&&◌, nat_lt, nat_le, Ok, length, IsOk};
 ghost use Rattle.std.specs.List.{flat_map};
 ghost use Rattle.xif_base.specs.Checks.{first_fault};

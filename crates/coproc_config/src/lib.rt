@@ -15,6 +15,7 @@ mod accept;
 mod apply;
 mod check;
 mod compute;
+pub mod laws;
 mod operation;
 mod set;
 mod state;
