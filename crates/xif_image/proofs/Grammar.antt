@@ -15,7 +15,7 @@ use Rattle.xif_image.proofs.Places.{placed_byte}
 abbrev pub is_ink : ℕ → Bool
 is_ink b = not (is_white b) && not (47 == b)
 
-blank-white : (b : ℕ) (bs : List ℕ) → is_white b ≡ true → blank_length (b ∷ bs) ≡ 1
+pub blank-white : (b : ℕ) (bs : List ℕ) → is_white b ≡ true → blank_length (b ∷ bs) ≡ 1
 blank-white b bs h = grind (arith, nat_tests)
 
 blank-ink : (b : ℕ) (bs : List ℕ) → is_ink b ≡ true → blank_length (b ∷ bs) ≡ 0

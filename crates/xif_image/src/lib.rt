@@ -12,6 +12,7 @@
 #![tactic(auto)]
 
 mod image;
+pub mod laws;
 mod memory;
 #[cfg(test)]
 mod tests;

@@ -1,7 +1,7 @@
 ghost use Rattle.std.specs.Prelude.{◌≡◌, ◌≤◌, ◌<◌, ◌+◌, ◌-◌, ◌^◌, ◌⊎◌, ◌==◌, ◌∷◌, [], ℕ, position, length, take, drop, IfOk, IfErr, IfSome, All};
 ghost use Rattle.std.specs.Option.{option_map_or};
 ghost use Rattle.xif_image.specs.Image.{IsWithin};
-ghost use Rattle.xif_image.specs.Text.{is_white, comment_length, blank_length, ends_token, token_length, length_before, Token, tokens_from, tokens_of, address_in, item_of, placed_by};
+ghost use Rattle.xif_image.specs.Text.{line_feed, is_white, comment_length, blank_length, ends_token, token_length, length_before, Token, tokens_from, tokens_of, address_in, item_of, placed_by};
 
 use crate::image::{ByteAt, ImageFault, address_of};
 use std::alloc::Global;
@@ -91,7 +91,7 @@ fn blank_length(bytes: &[u8]) -> usize
 }
 
 fn line_feed(bytes: &[u8]) -> Option<usize>
-    ensures { result ≡ position (λ b. b == 10) bytes.now }
+    ensures { result ≡ position (λ b. b == line_feed) bytes.now }
 {
     bytes.iter().position(|b| *b == b'\n')
 }
