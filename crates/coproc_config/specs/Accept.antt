@@ -20,7 +20,8 @@ is_even n = n % 2 == 0
 abbrev pub can_read : Params → ℕ → Reads → Bool
 can_read p word reads =
     list_all (λ lane. nat_lt lane p.num_rs) (lanes_read reads)
-    && list_all (λ lane. nat_lt lane p.dual_read && is_even (source_field word lane)) (pairs_read reads)
+    && list_all (λ lane. nat_lt lane p.dual_read && is_even (source_field word lane))
+    (pairs_read reads)
 
 -- a pair can be written, whose first register is even
 abbrev pub can_write : Params → ℕ → Writes → Bool
@@ -32,7 +33,8 @@ can_write p word writes.Pair = p.dual_write && is_even (rd_field word)
 abbrev pub takes : Params → ℕ → Entry → Bool
 takes p word e =
     (bit_and word e.mask == e.matched)
-    && (can_read p word (operation_line e.op).reads && can_write p word (operation_line e.op).writes)
+    && (can_read p word (operation_line e.op).reads
+    && can_write p word (operation_line e.op).writes)
 
 -- the number that has this bit alone
 abbrev pub flag_of : Option ℕ → ℕ
@@ -80,7 +82,8 @@ entry_in (Some unit) i = slice_get unit.entries i
 abbrev pub entry_at : List UnitTable → Hit → Option Entry
 entry_at units hit = entry_in (slice_get units hit.unit) hit.entry
 
--- there is the entry that is named, it takes the word, and a hit has the flags of what it reads and writes
+-- there is the entry that is named, it takes the word, and a hit has the flags of what it reads
+-- and writes
 pub record HasFlagsOf (named : Option Entry) (p : Params) (word : ℕ) (hit : Hit) : Type 0 where
   pub entry : Entry
   pub there : named ≡ Some entry
@@ -88,7 +91,8 @@ pub record HasFlagsOf (named : Option Entry) (p : Params) (word : ℕ) (hit : Hi
   pub reads : hit.register_read.0 ≡ read_flags p (operation_line entry.op).reads
   pub writes : hit.writeback.0 ≡ write_flags (operation_line entry.op).writes
 
--- a hit is an issue response that the interface allows for a word (CV-X-IF 1.0.0, "Issue interface")
+-- a hit is an issue response that the interface allows for a word (CV-X-IF 1.0.0, section
+-- "Issue interface")
 pub record IsAllowed (p : Params) (word : ℕ) (hit : Hit) : Type 0 where
   -- `register_read` has X_NUM_RS + X_DUALREAD bits
   pub reads : hit.register_read.0 < 2 ^ (p.num_rs + p.dual_read)

@@ -18,7 +18,8 @@ lane low high = low + 2 ^ 32 * high
 abbrev pub field : ℕ → ℕ → ℕ → ℕ
 field word low len = word / 2 ^ low % 2 ^ len
 
--- a word with these bits replaced by the low bits of a value: the bits above them, the value, the bits below
+-- a word with these bits replaced by the low bits of a value: the bits above them, the value, the
+-- bits below
 abbrev pub with_field : ℕ → ℕ → ℕ → ℕ → ℕ
 with_field word low len value =
     word / 2 ^ (low + len) * 2 ^ (low + len) + value % 2 ^ len * 2 ^ low + word % 2 ^ low

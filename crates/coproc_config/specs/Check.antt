@@ -34,8 +34,10 @@ unit_checks unit =
 
 -- the checks of an entry
 abbrev pub entry_checks : Place → List (Bool × SetFault)
-entry_checks place =
-    (bit_and place.row.matched place.row.mask == place.row.matched, fault BadMask place.unit place.entry)
+entry_checks place = (
+  bit_and place.row.matched place.row.mask == place.row.matched,
+  fault BadMask place.unit place.entry,
+)
     ∷ (
       has_accumulator (operation_line place.row.op).names place.row.acc place.accumulators,
       fault BadAccumulator place.unit place.entry,
@@ -54,7 +56,9 @@ all_entry_checks units = flat_map entry_checks (places units)
 
 -- the checks of a set in their order, each a test and the fault where it fails
 abbrev pub checks : List UnitTable → List (Bool × SetFault)
-checks units = (nat_le (length units) 8, fault TooManyUnits 0 0) ∷ (size_checks units ++ all_entry_checks units)
+checks units =
+    (nat_le (length units) 8, fault TooManyUnits 0 0)
+    ∷ (size_checks units ++ all_entry_checks units)
 
 -- no check of a set fails
 abbrev pub IsLawful : List UnitTable → Type 0

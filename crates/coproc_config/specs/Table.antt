@@ -70,25 +70,32 @@ none x = 0
 abbrev pub kept : Inputs → ℕ
 kept x = x.q
 
--- The table: what an operation reads, writes and names, its result, and the accumulator that it leaves.
+-- The table: what an operation reads, writes and names, its result, and the accumulator that it
+-- leaves.
 abbrev pub operation_line : Op → Line
 operation_line ExtractU = with reads.A writes.One names.Field (λ x. field x.a x.low x.len) kept
-operation_line ExtractS = with reads.A writes.One names.Field (λ x. sign_extended x.len (field x.a x.low x.len)) kept
-operation_line Insert = with reads.AB writes.One names.Field (λ x. with_field x.b x.low x.len x.a) kept
+operation_line ExtractS = with reads.A writes.One names.Field
+    (λ x. sign_extended x.len (field x.a x.low x.len)) kept
+operation_line Insert = with reads.AB writes.One names.Field
+    (λ x. with_field x.b x.low x.len x.a) kept
 operation_line Reverse = with reads.A writes.One names.Nothing (λ x. reversed 32 x.a) kept
 operation_line Ones = with reads.A writes.One names.Nothing (λ x. ones 32 x.a) kept
 operation_line Merge = with reads.ABC writes.One names.Nothing (λ x. merged 32 x.a x.b x.c) kept
 operation_line AccClear = with reads.Nothing writes.Nothing names.Accumulator none (λ x. 0)
-operation_line AccAdd = with reads.A writes.Nothing names.Accumulator none (λ x. (x.q + x.a) % 2 ^ 64)
+operation_line AccAdd = with reads.A writes.Nothing names.Accumulator none
+    (λ x. (x.q + x.a) % 2 ^ 64)
 operation_line AccMac = with reads.AB writes.Nothing names.Accumulator none
     (λ x. modulo_64 (pos x.q +ℤ (signed x.a *ℤ signed x.b)))
 operation_line AccReadLow = with reads.Nothing writes.One names.Accumulator (λ x. low_half x.q) kept
-operation_line AccReadHigh = with reads.Nothing writes.One names.Accumulator (λ x. high_half x.q) kept
+operation_line AccReadHigh = with reads.Nothing writes.One names.Accumulator
+    (λ x. high_half x.q) kept
 operation_line AccSwap = with reads.A writes.One names.Accumulator (λ x. low_half x.q) (λ x. x.a)
-operation_line PairAdd = with reads.PairAB writes.Pair names.Nothing (λ x. (lane x.a x.high_a + lane x.b x.high_b) % 2 ^ 64) kept
+operation_line PairAdd = with reads.PairAB writes.Pair names.Nothing
+    (λ x. (lane x.a x.high_a + lane x.b x.high_b) % 2 ^ 64) kept
 operation_line PairMul = with reads.AB writes.Pair names.Nothing (λ x. x.a * x.b) kept
 operation_line PairRead = with reads.Nothing writes.Pair names.Accumulator (λ x. x.q) kept
-operation_line PairSum = with reads.PairA writes.One names.Nothing (λ x. (x.a + x.high_a) % 2 ^ 32) kept
+operation_line PairSum = with reads.PairA writes.One names.Nothing
+    (λ x. (x.a + x.high_a) % 2 ^ 32) kept
 
 -- the flags of the registers that are written: bit 0 for rd, bit 1 for the odd register of a pair
 abbrev pub write_flags : Writes → ℕ

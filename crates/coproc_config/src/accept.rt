@@ -15,8 +15,8 @@ use bitflags::Flags;
 use rv32_table::{rd_field, rs_field};
 use xif_base::{Params, ReadFlags, WriteFlags};
 
-/// The entry that takes a word, by the number of its unit and its own number in that unit, both from
-/// 0, and the issue response (CV-X-IF 1.0.0, section "Issue interface").
+/// The entry that takes a word, by the number of its unit and its own number there, both from 0, and
+/// the issue response (CV-X-IF 1.0.0, section "Issue interface").
 #[derive(Clone, Copy, Debug, PartialEq, Eq)]
 pub struct Hit {
     pub unit: u8,
@@ -29,13 +29,15 @@ pub struct Hit {
 
 impl Set {
     /// The first entry, in unit order and then entry order, that matches the word and that the
-    /// parameters allow: each lane that it reads is there, pairs are read below X_DUALREAD from even
-    /// registers, and a pair is written only with X_DUALWRITE, to an even register.
+    /// parameters allow: each lane that it reads is there, pairs are read below X_DUALREAD from
+    /// even registers, and a pair is written only with X_DUALWRITE, to an even register. `None` if
+    /// and only if there is no such entry: the word is then not accepted.
     pub fn accept(&self, params: &Params, word: u32) -> Option<Hit>
         requires lawful { IsLawful self.now }
         requires params { IsInRange params.now }
         ensures first { result ≡ hit_of self.now params.now word }
-        ensures flags { IfSome result (λ hit. HasFlagsOf (entry_at self.now hit) params.now word hit) }
+        ensures flags { IfSome result
+            (λ hit. HasFlagsOf (entry_at self.now hit) params.now word hit) }
         ensures allowed { IfSome result (IsAllowed params.now word) }
 
         // A pair is written to an even register.

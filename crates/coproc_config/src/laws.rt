@@ -1,5 +1,5 @@
-//! Laws of the table of operations, each the contract of a call that does nothing. They say that its
-//! columns `reads`, `writes` and `names` are those that its results and accumulators call for.
+//! Laws of the table of operations, each the contract of a call that does nothing. They say that the
+//! columns `reads`, `writes` and `names` are those that results and accumulators call for.
 ghost use Rattle.std.specs.Prelude.{◌≡◌, ◌^◌, ℕ, List};
 ghost use Rattle.std.specs.List.{AllByRecursion};
 ghost use Rattle.xif_base.specs.declared.params.Params.{Params};
@@ -26,8 +26,10 @@ pub fn halves_that_are_not_read_do_not_count()
 
 /// Each half that an operation reads changes what some entry of it does.
 pub fn halves_that_are_read_count()
-    ensures low { (op : Op) → AllByRecursion (LowCounts op) (lanes_read (operation_line op).reads) }
-    ensures high { (op : Op) → AllByRecursion (HighCounts op) (pairs_read (operation_line op).reads) }
+    ensures low { (op : Op)
+        → AllByRecursion (LowCounts op) (lanes_read (operation_line op).reads) }
+    ensures high { (op : Op)
+        → AllByRecursion (HighCounts op) (pairs_read (operation_line op).reads) }
 {}
 
 /// An operation that writes nothing has the result 0, and some result of one that writes a register
