@@ -62,7 +62,6 @@ impl Unit {
         ensures unit { IfSome result (λ hit. hit.unit ≡ unit) }
         ensures flags { IfSome result
             (λ hit. HasFlagsOf (slice_get self.now.entries hit.entry) params.now word hit) }
-        ensures pair { IfSome result (λ hit. hit.writeback.0 ≡ 3 → rd_field_of word % 2 ≡ 0) }
     {
         for i in 0..self.len() {
             let entry = self.get(i);
@@ -84,8 +83,6 @@ impl Entry {
         ensures takes { result ≡ takes params.now word self.now }
         ensures readable { IsTrue result
             → IsTrue (can_read params.now word (operation_line self.now.op).reads) }
-        ensures writable { IsTrue result
-            → write_flags_of (operation_line self.now.op).writes ≡ 3 → rd_field_of word % 2 ≡ 0 }
     {
         word & self.mask == self.matched
             && is_readable(self.op.reads(), params, word)
@@ -112,8 +109,7 @@ fn is_readable(reads: Reads, params: &Params, word: u32) -> bool
 }
 
 fn is_writable(writes: Writes, params: &Params, word: u32) -> bool
-    ensures value { result ≡ can_write params.now word writes }
-    ensures even { IsTrue result → write_flags_of writes ≡ 3 → rd_field_of word % 2 ≡ 0 }
+    ensures { result ≡ can_write params.now word writes }
 {
     match writes {
         Writes::Nothing | Writes::One => true,

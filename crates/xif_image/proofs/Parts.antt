@@ -1,14 +1,17 @@
 -- A text is read by its parts.
-use Rattle.std.proofs.Common.{◌≡◌, ◌<◌, ◌≤◌, ◌==◌, ◌&&◌, ◌+◌, ◌-◌, ◌⊎◌, ℕ, zero, suc, Bool, true, false, not, List, [], ◌∷◌, ◌++◌, length, take, drop, codes, Option, Some, None, refl, sym, ap, subst, inl, inr, ◌∙◌, add-one, append_assoc, length-append, arith, nat_lt, if◌then◌else◌}
+use Rattle.std.proofs.Common.{◌≡◌, ◌<◌, ◌≤◌, ◌==◌, ◌+◌, ◌⊎◌, ℕ, zero, suc, Bool, true, false, not, List, [], ◌∷◌, ◌++◌, length, take, drop, codes, refl, sym, ap, subst, inl, inr, ◌∙◌, add-one, append_assoc, length-append, arith}
 use Rattle.std.specs.Prelude.{position, unwrap_or}
 use Rattle.std.specs.List.{list_all}
 use Rattle.std.proofs.lemmas.List.{take_at, drop_at}
-use Rattle.std.proofs.lemmas.Bool.{cond-false, cond-true, and_parts, lt-ltb}
+use Rattle.std.proofs.lemmas.Bool.{and_parts}
 use Rattle.std.proofs.lemmas.Bool.Decides.{nat_tests}
-use Rattle.xif_image.specs.Text.{line_feed, is_white, begins, length_before, comment_length, blank_length, ends_token, token_length, Token, tokens_from, placed_by, image_or_empty, text_image}
+use Rattle.xif_image.specs.Text.{line_feed, is_white, begins, length_before, blank_length, ends_token, token_length, Token, tokens_from, placed_by, image_or_empty, text_image}
 use Rattle.xif_image.specs.Grammar.{Part, White, LineComment, BlockComment, Word, part_bytes, spelled, is_open, begins_word, runs_on, EndsLine, IsWord, IsPart, AreParts, words_from, parts_image}
 use Rattle.xif_image.proofs.Tokens.{tokens_blank, tokens_token}
-use Rattle.xif_image.proofs.Grammar.{blank-white}
+use Rattle.xif_image.proofs.HexText.{slash, blank-white}
+
+abbrev star : ℕ
+star = 42
 
 -- the line feed behind a comment
 line-end : (inner rest : List ℕ) → list_all (λ b. not (b == line_feed)) inner ≡ true → EndsLine rest
@@ -152,7 +155,7 @@ begins-front b (d ∷ ds) rest bs same e =
     grind (arith, nat_tests)
 
 block_step : (b : ℕ) (bs : List ℕ) (t : Bool) → begins (codes "*/") (b ∷ bs) ≡ t → ((is_open bs ≡ true) ⊎ Block bs) → ((is_open (b ∷ bs) ≡ true) ⊎ Block (b ∷ bs))
-block_step b bs true e x = inr (record { inner = []; rest = drop 1 bs; same = two-front 42 47 b bs e; none = refl })
+block_step b bs true e x = inr (record { inner = []; rest = drop 1 bs; same = two-front star slash b bs e; none = refl })
 block_step b bs false e (inl none) = inl (rw (e, none) refl)
 block_step b bs false e (inr k) = inr (record {
   inner = b ∷ k.inner;
@@ -212,7 +215,7 @@ block_front b bs w l e (inl none) = word_front b bs (rw (w, l, e, none) refl)
 block_front b bs w l e (inr k) = record {
   part = BlockComment k.inner;
   rest = k.rest;
-  same = ap (λ xs. 47 ∷ 42 ∷ xs) (append_assoc k.inner (codes "*/") k.rest ∙ k.same) ∙ two-front 47 42 b bs e;
+  same = ap (λ xs. slash ∷ star ∷ xs) (append_assoc k.inner (codes "*/") k.rest ∙ k.same) ∙ two-front slash star b bs e;
   is = k.none;
 }
 
@@ -223,7 +226,7 @@ front_by b bs false true c v e f =
     record {
       part = LineComment line.inner;
       rest = line.rest;
-      same = ap (λ xs. 47 ∷ 47 ∷ xs) line.same ∙ two-front 47 47 b bs e;
+      same = ap (λ xs. slash ∷ slash ∷ xs) line.same ∙ two-front slash slash b bs e;
       is = (line.none, line.ends);
     }
 front_by b bs false false true v e f = block_front b bs v e f (block_of (drop 1 bs))

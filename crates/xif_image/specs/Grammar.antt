@@ -1,6 +1,8 @@
--- The grammar of the text of an image. A text is a list of parts: white bytes, comments, and words, which are addresses,
--- bytes, or what is neither. Comments count for as little as white bytes do.
-use Rattle.std.specs.Prelude.{◌≡◌, ◌==◌, ◌&&◌, ◌++◌, ◌+◌, ◌⊎◌, ℕ, Bool, true, not, List, [], ◌∷◌, length, drop, codes, Result}
+-- The grammar of the text of an image, after `$readmemh` of IEEE 1364-2005 (17.2.9), of bytes alone.
+-- A text is a list of parts: white bytes, comments, and words, which are addresses, bytes, or neither.
+-- Comments count for as little as white bytes do.
+use Rattle.std.specs.Prelude.{◌≡◌, ◌==◌, ◌&&◌, ◌++◌, ◌+◌, ◌/◌, ◌%◌, ◌⊎◌, ℕ, Bool, true, not, List, [], ◌∷◌, length, drop, codes, Result}
+use Rattle.std.specs.Char.{digit_char}
 use Rattle.std.specs.List.{flat_map, list_all}
 use Rattle.xif_image.specs.declared.image.ImageFault.{ImageFault}
 use Rattle.xif_image.specs.Image.{Placement}
@@ -38,7 +40,8 @@ abbrev pub begins_word : List ℕ → Bool
 begins_word [] = true
 begins_word (b ∷ bs) =
     not (is_white b)
-    && (not (begins (codes "//") (b ∷ bs)) && not (begins (codes "/*") (b ∷ bs) && not (is_open (drop 1 bs))))
+    && (not (begins (codes "//") (b ∷ bs))
+    && not (begins (codes "/*") (b ∷ bs) && not (is_open (drop 1 bs))))
 
 -- neither white space nor a comment begins within bytes that a rest follows
 abbrev pub runs_on : List ℕ → List ℕ → Bool
@@ -58,7 +61,8 @@ pub record IsWord (first : ℕ) (others rest : List ℕ) : Type 0 where
 -- a part may be followed by the rest of a text
 abbrev pub IsPart : Part → List ℕ → Type 0
 IsPart (White b) rest = is_white b ≡ true
-IsPart (LineComment inner) rest = (list_all (λ b. not (b == line_feed)) inner ≡ true) × EndsLine rest
+IsPart (LineComment inner) rest =
+    (list_all (λ b. not (b == line_feed)) inner ≡ true) × EndsLine rest
 IsPart (BlockComment inner) rest = is_open inner ≡ true
 IsPart (Word first others) rest = IsWord first others rest
 
@@ -74,6 +78,12 @@ words_from at (Word first others ∷ parts) =
     record { at = at; bytes = first ∷ others } ∷ words_from (at + length (first ∷ others)) parts
 words_from at (part ∷ parts) = words_from (at + length (part_bytes part)) parts
 
--- the image that the words of parts place one after another, for a memory of this base and size; or the first fault
+-- the image that the words of parts place one after another, for a memory of this base and size; or
+-- the first fault
 abbrev pub parts_image : ℕ → ℕ → List Part → Result Placement ImageFault
-parts_image base size parts = image_or_empty base size (placed_by base size base (words_from 0 parts))
+parts_image base size parts =
+    image_or_empty base size (placed_by base size base (words_from 0 parts))
+
+-- a byte as two hex digits and a line feed
+abbrev pub hex_line : ℕ → List ℕ
+hex_line value = digit_char (value / 16) ∷ digit_char (value % 16) ∷ line_feed ∷ []

@@ -15,9 +15,11 @@ IsWidth width = (width ≡ 1) ⊎ ((width ≡ 2) ⊎ (width ≡ 4))
 
 -- so many bytes from an address on lie in the region
 abbrev pub is_inside : Region → ℕ → ℕ → Bool
-is_inside m address count = nat_le m.base address && nat_le (address + count) (m.base + length m.bytes)
+is_inside m address count =
+    nat_le m.base address && nat_le (address + count) (m.base + length m.bytes)
 
--- why so many bytes from an address on can't be moved: the address is no multiple of their number, or else one lies outside
+-- why so many bytes from an address on can't be moved: the address is no multiple of their number,
+-- or else one lies outside
 abbrev pub fault_of : Region → ℕ → ℕ → Option MemFault
 fault_of m address width =
     if address % width == 0
@@ -33,15 +35,18 @@ unless (Some fault) value = Err fault
 abbrev pub bytes_at : Region → ℕ → ℕ → List ℕ
 bytes_at m address count = take count (drop (address - m.base) m.bytes)
 
--- what a load returns: the number whose lowest bytes are those at the address, and whose others are 0
+-- what a load returns: the number whose lowest bytes are those at the address, its others being 0
 abbrev pub loaded : Region → ℕ → ℕ → Result ℕ MemFault
-loaded m address width = unless (fault_of m address width) (from_le_bytes w32 (bytes_at m address width))
+loaded m address width =
+    unless (fault_of m address width) (from_le_bytes w32 (bytes_at m address width))
 
--- The word at an address, which a fetch reads. There is none where the address is no multiple of 4, or where one of the
--- four bytes lies outside.
+-- The word at an address, which a fetch reads. There is none where the address is no multiple of 4,
+-- or where one of the four bytes lies outside.
 abbrev pub word_at : Region → ℕ → Option ℕ
 word_at m address =
-    if (address % 4 == 0) && is_inside m address 4 then Some (from_le_bytes w32 (bytes_at m address 4)) else None
+    if (address % 4 == 0) && is_inside m address 4
+    then Some (from_le_bytes w32 (bytes_at m address 4))
+    else None
 
 -- bytes, after others were put over them from an index on
 abbrev pub overwritten : List ℕ → ℕ → List ℕ → List ℕ
@@ -50,4 +55,7 @@ overwritten bytes at others = take at bytes ++ others ++ drop (at + length other
 -- the region after a store, which puts the lowest bytes of a value at the address
 abbrev pub stored : Region → ℕ → ℕ → ℕ → Region
 stored m address width value =
-    record { base = m.base; bytes = overwritten m.bytes (address - m.base) (take width (to_le_bytes w32 value)) }
+    record {
+      base = m.base;
+      bytes = overwritten m.bytes (address - m.base) (take width (to_le_bytes w32 value));
+    }

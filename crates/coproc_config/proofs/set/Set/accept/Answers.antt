@@ -29,6 +29,9 @@ returns-in-Some-clause-flags c =
 pub returns-in-Some-clause-allowed : goal.returns-in-Some-clause-allowed
 returns-in-Some-clause-allowed c = allowed _ c.args.params.now c.args.word c.in-Some.hit c.requires.params (returns-in-Some-clause-flags c)
 
+pub returns-in-Some-clause-pair : goal.returns-in-Some-clause-pair
+returns-in-Some-clause-pair c = λ e. ((returns-in-Some-clause-allowed c).write_pairs e).1
+
 pub loop-i-preserved : goal.loop-i-preserved
 loop-i-preserved c =
     let p = c.args.params.now in
