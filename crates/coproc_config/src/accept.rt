@@ -15,8 +15,8 @@ use bitflags::Flags;
 use rv32_table::{rd_field, rs_field};
 use xif_base::{Params, ReadFlags, WriteFlags};
 
-/// The entry that takes a word, by the number of its unit and its own number there, both from 0, and
-/// the issue response (CV-X-IF 1.0.0, section "Issue interface").
+/// The entry that takes a word, by the number of its unit and its own number there, both from 0,
+/// and the issue response (CV-X-IF 1.0.0, section "Issue interface").
 #[derive(Clone, Copy, Debug, PartialEq, Eq)]
 pub struct Hit {
     pub unit: u8,
@@ -79,6 +79,7 @@ impl Unit {
 }
 
 impl Entry {
+    /// Whether the entry matches the word, and the parameters allow it.
     fn takes(&self, params: &Params, word: u32) -> bool
         ensures takes { result ≡ takes params.now word self.now }
         ensures readable { IsTrue result

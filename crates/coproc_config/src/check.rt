@@ -23,8 +23,8 @@ pub enum SetCause {
     BadField,
 }
 
-/// What is wrong with a set, and where: the numbers of a unit and of its entry, from 0. The entry is
-/// 0 for a fault of a unit, and both are 0 for a fault of the whole set.
+/// What is wrong with a set, and where: the numbers of a unit and of its entry, from 0. The entry
+/// is 0 for a fault of a unit, and both are 0 for a fault of the whole set.
 #[derive(Clone, Copy, Debug, PartialEq, Eq)]
 pub struct SetFault {
     pub cause: SetCause,

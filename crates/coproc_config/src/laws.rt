@@ -1,5 +1,5 @@
-//! Laws of the table of operations, each the contract of a call that does nothing. They say that the
-//! columns `reads`, `writes` and `names` are those that results and accumulators call for.
+//! Laws of the table of operations, each the contract of a call that does nothing. They say that
+//! the columns `reads`, `writes` and `names` are those that results and accumulators call for.
 ghost use Rattle.std.specs.Prelude.{◌≡◌, ◌^◌, ℕ, List};
 ghost use Rattle.std.specs.List.{AllByRecursion};
 ghost use Rattle.xif_base.specs.declared.params.Params.{Params};

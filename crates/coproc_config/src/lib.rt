@@ -6,10 +6,10 @@
 //! `accept` returns the issue response of CV-X-IF 1.0.0, and `apply` the result. Neither takes
 //! memory.
 //!
-//! The definitions are in `specs/`: `Table` is the table of the operations, a line an operation, and
-//! `Bits` has what it says of bits; `Set` and `State` are how sets and states are seen; `Check` has
-//! the checks of a set in their order; `Accept` says which entry takes a word, and `Apply` what that
-//! does. laws.rt has what holds of the table, in the words of `Laws`.
+//! The definitions are in `specs/`: `Table` is the table of the operations, a line an operation,
+//! and `Bits` has what it says of bits; `Set` and `State` are how sets and states are seen; `Check`
+//! has the checks of a set in their order; `Accept` says which entry takes a word, and `Apply` what
+//! that does. laws.rt has what holds of the table, in the words of `Laws`.
 #![tactic(auto)]
 
 mod accept;
