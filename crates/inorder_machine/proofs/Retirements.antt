@@ -4,7 +4,7 @@ use Rattle.std.specs.Option.{option_and_then, is_some, unwrap_or}
 use Rattle.std.proofs.lemmas.Bool.{cases_lt}
 use Rattle.std.proofs.lemmas.Bool.Decides.{nat_tests}
 use Rattle.inorder_machine.specs.declared.stop.StopCause.{StopCause}
-use Rattle.inorder_machine.specs.Machine.{Extension, State, outcome_of}
+use Rattle.inorder_machine.specs.Machine.{Extension, State, next_step}
 use Rattle.inorder_machine.specs.After.{next_state, after, retired_within, last_within, stop_of, stop_within}
 
 -- one retirement more
@@ -46,13 +46,13 @@ pub record Ends (x : Extension) (budget n : ℕ) (s t : State) (stop : Option St
   pub last : t ≡ last_within x budget s
   pub stop_is : stop ≡ stop_within x budget s
 
-ends : (x : Extension) → (budget n : ℕ) (s t : State) (stop : Option StopCause) → after x n s ≡ Some t → n ≡ retired_within x budget s → cond (n == budget) None (stop_of (outcome_of x t)) ≡ stop → Ends x budget n s t stop
+ends : (x : Extension) → (budget n : ℕ) (s t : State) (stop : Option StopCause) → after x n s ≡ Some t → n ≡ retired_within x budget s → cond (n == budget) None (stop_of (next_step x t)) ≡ stop → Ends x budget n s t stop
 ends x budget n s t stop e same how =
     let last : t ≡ last_within x budget s = sym (ap (λ k. unwrap_or (after x k s) s) (sym same) ∙ ap (λ o. unwrap_or o s) e) in
     record {
       retired = same;
       last = last;
-      stop_is = sym how ∙ ap (λ k. cond (k == budget) None (stop_of (outcome_of x t))) same ∙ ap (λ u. cond (retired_within x budget s == budget) None (stop_of (outcome_of x u))) last;
+      stop_is = sym how ∙ ap (λ k. cond (k == budget) None (stop_of (next_step x t))) same ∙ ap (λ u. cond (retired_within x budget s == budget) None (stop_of (next_step x u))) last;
     }
 
 -- by its budget
@@ -60,5 +60,5 @@ pub ends-full : (x : Extension) → (n : ℕ) (s t : State) → after x n s ≡ 
 ends-full x n s t e = ends x n n s t None e (sym (retired_within-full x n s t e)) (grind (arith, nat_tests))
 
 -- by an instruction that doesn't retire
-pub ends-early : (x : Extension) → (budget n : ℕ) (s t : State) → after x n s ≡ Some t → next_state x t ≡ None → n < budget → Ends x budget n s t (stop_of (outcome_of x t))
-ends-early x budget n s t e stop h = ends x budget n s t (stop_of (outcome_of x t)) e (sym (retired_within-stopped x budget n s t e stop (omega arith))) (grind (arith, nat_tests))
+pub ends-early : (x : Extension) → (budget n : ℕ) (s t : State) → after x n s ≡ Some t → next_state x t ≡ None → n < budget → Ends x budget n s t (stop_of (next_step x t))
+ends-early x budget n s t e stop h = ends x budget n s t (stop_of (next_step x t)) e (sym (retired_within-stopped x budget n s t e stop (omega arith))) (grind (arith, nat_tests))

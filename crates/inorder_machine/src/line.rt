@@ -1,5 +1,19 @@
-/// What a retired instruction leaves behind. The state after it follows from the state before it
-/// and this line alone, so a list of lines fixes every state on the way.
+//! What becomes of one instruction.
+
+use crate::stop::StopCause;
+
+/// What became of one instruction.
+#[derive(Clone, Copy, Debug, PartialEq, Eq)]
+pub enum Stepped {
+    /// It retired, and changed what its line says.
+    Retired(Retire),
+    /// It stops the machine, and changed nothing.
+    Stop(StopCause),
+}
+
+/// What a retired instruction leaves behind: its address and word, and all that it changed but the
+/// accumulators of the units. Registers, memory and the address of the next instruction follow
+/// from those before it and this line alone.
 #[derive(Clone, Copy, Debug, PartialEq, Eq)]
 pub struct Retire {
     /// The address of the instruction.

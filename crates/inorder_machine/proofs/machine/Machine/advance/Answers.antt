@@ -22,9 +22,9 @@ loop-retired-preserved c =
     let x : Extension = record { set = c.args.set.now; params = c.args.params.now } in
     record {
       reached = after-more x c.loop-retired.retired c.args.self.now c.loop-retired.self c.loop-retired.invariant.reached
-          ∙ ap (next_by x c.loop-retired.self) (sym c.in-Retired.ensures.outcome)
-          ∙ ap Some (sym c.in-Retired.ensures.state);
-      units = c.in-Retired.ensures.units;
+          ∙ ap (next_by x c.loop-retired.self) (sym c.in_default.ensures.outcome)
+          ∙ ap Some (sym c.in_default.ensures.state);
+      units = c.in_default.ensures.units;
     }
 
 pub returns-clause-retired : goal.returns-clause-retired
