@@ -1,6 +1,6 @@
--- The grammar of the text of an image, after `$readmemh` of IEEE 1364-2005 (17.2.9), of bytes alone.
--- A text is a list of parts: white bytes, comments, and words, which are addresses, bytes, or neither.
--- Comments count for as little as white bytes do.
+-- The grammar of the text of an image, after `$readmemh` of IEEE 1364-2005 (17.2.9), of bytes
+-- alone. A text is a list of parts: white bytes, comments, and words, which are addresses, bytes,
+-- or neither. Comments count for as little as white bytes do.
 use Rattle.std.specs.Prelude.{◌≡◌, ◌==◌, ◌&&◌, ◌++◌, ◌+◌, ◌/◌, ◌%◌, ◌⊎◌, ℕ, Bool, true, not, List, [], ◌∷◌, length, drop, codes, Result}
 use Rattle.std.specs.Char.{digit_char}
 use Rattle.std.specs.List.{flat_map, list_all}

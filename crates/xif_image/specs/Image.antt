@@ -44,7 +44,7 @@ abbrev pub unless_outside : Placement → Option ℕ → Result Placement ImageF
 unless_outside image None = Ok image
 unless_outside image (Some at) = Err (Outside at)
 
--- The image that the bytes of a file are as they stand, the first at an address, for a memory of this
+-- The image that the bytes of a file are as they are, the first at an address, for a memory of this
 -- base and size; or the first byte whose address isn't one of the memory's.
 abbrev pub raw_image : (load base size : ℕ) → List ℕ → Result Placement ImageFault
 raw_image load base size bytes =

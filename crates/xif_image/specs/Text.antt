@@ -1,6 +1,7 @@
--- The text of an image, after `$readmemh` of IEEE 1364-2005 (17.2.9), of bytes alone: its tokens, what
--- a token says, and what the tokens place one after another. Its grammar is in Grammar.antt; by the
--- laws of the crate the tokens are the words of that grammar.
+-- The text of an image, after `$readmemh` of IEEE 1364-2005 (17.2.9), of bytes alone: its tokens,
+-- what a token says, and what the tokens place one after another. Its grammar is in Grammar.antt:
+-- by the laws of the crate the tokens are the words of that grammar, so that how they are cut from the
+-- text here need not be believed.
 use Rattle.std.specs.Prelude.{zero, suc, ◌+◌, ◌-◌, ◌==◌, ◌&&◌, ◌||◌, ℕ, List, [], ◌∷◌, length, take, drop, codes, nat_eq, nat_lt, nat_le, Bool, true, position, unwrap_or, Option, Some, None, Result, Ok, Err, if◌then◌else◌}
 use Rattle.std.specs.Char.{is_digit}
 use Rattle.std.specs.Option.{option_map}
@@ -70,8 +71,8 @@ pub record Token : Type 0 where
   pub at : ℕ
   pub bytes : List ℕ
 
--- The tokens of bytes, the first of which is at an offset. Each byte is white, or begins a comment or
--- a token, or belongs to what began before it, as so many bytes at the front do.
+-- The tokens of bytes, the first of which is at an offset. Each byte is white, or begins a comment
+-- or a token, or belongs to what began before it, as so many bytes at the front do.
 abbrev pub tokens_from : ℕ → ℕ → List ℕ → List Token
 tokens_from at begun [] = []
 tokens_from at (suc begun) (b ∷ bs) = tokens_from (at + 1) begun bs

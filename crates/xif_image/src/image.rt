@@ -113,11 +113,11 @@ impl Image {
     }
 
     /// The bytes of a text, for a memory of `size` bytes from `base` on. The text is that of
-    /// `$readmemh` (IEEE 1364-2005, 17.2.9), of bytes alone. Its tokens are separated by white space
-    /// and comments, which go from `//` to the end of the line or from `/*` to `*/`. Two hex digits
-    /// are a byte. The first byte is at `base`, and each other one behind the one before it; but `@`
-    /// with one to eight hex digits is the address of the next byte. Nothing else is a token: an
-    /// open comment is a fault at its first byte.
+    /// `$readmemh` (IEEE 1364-2005, 17.2.9), of bytes alone. Its tokens are separated by white
+    /// space and comments, which go from `//` to the end of the line or from `/*` to `*/`. Two hex
+    /// digits are a byte. The first byte is at `base`, and each other one behind the one before it;
+    /// but `@` with one to eight hex digits is the address of the next byte. Nothing else is a
+    /// token: an open comment is a fault at its first byte.
     pub fn text(alloc: Global, bytes: &[u8], base: u32, size: u32) -> Result<Image, ImageFault>
         requires { base + size ≤ 2 ^ 32 }
         ensures image { IfOk result (λ image. text_image base size bytes.now ≡ Ok image) }

@@ -62,13 +62,13 @@ fn a_memory_is_little_endian_and_refuses_what_lies_outside(rt: HostRuntime) -> R
         stores_are(&rt, &mut memory, &[(4, 4, 0, Ok(()))]);
         loads_are(&rt, &copy, &LOADS);
         assert_eq!(rt; (copy.base(), copy.size()), (base, 8));
-        assert_eq!(rt; copy.bytes(), &[0x77, 0, 0, 0, 4, 3, 2, 1]);
+        assert_eq!(rt; copy.bytes(), [0x77, 0, 0, 0, 4, 3, 2, 1].as_slice());
     }
     Ok(())
 }
 
-/// What the word at address 16 is, and the word behind it, in a memory of so many bytes from there, in
-/// which bytes are placed from `load` on.
+/// Where four bytes are placed in a memory from address 16 on, the memory's size, and the words at
+/// addresses 16 and 20.
 type Raw = (u32, u32, Result<(Option<u32>, Option<u32>), ImageFault>);
 
 const RAW: [Raw; 5] = [
@@ -87,7 +87,11 @@ fn raw_bytes_are_placed_in_a_row(rt: HostRuntime) -> Result<(), Fail> {
         match Image::raw(rt.alloc(), &[1, 2, 3, 4], load, 16, size) {
             Ok(image) => {
                 memory.place(&image);
-                assert_eq!(rt; Ok((memory.word(16), memory.word(20))), want, "{size} bytes");
+                assert_eq!(rt;
+                    Ok((memory.word(16), memory.word(20))),
+                    want,
+                    "{size} bytes"
+                );
                 assert_eq!(rt; memory.word(18), None);
             }
             Err(fault) => assert_eq!(rt; Err(fault), want, "{size} bytes"),
@@ -131,7 +135,11 @@ fn texts_are(rt: &impl Abort, alloc: Global, base: u32, cases: &[Text]) -> Resul
         match Image::text(alloc, text.as_bytes(), base, 16) {
             Ok(image) => {
                 memory.place(&image);
-                assert_eq!(rt; memory.bytes(), &want.unwrap_or([0xff; 16]), "{text}");
+                assert_eq!(rt;
+                    memory.bytes(),
+                    want.unwrap_or([0xff; 16]).as_slice(),
+                    "{text}"
+                );
             }
             Err(fault) => assert_eq!(rt; Err(fault), *want, "{text}"),
         }
