@@ -4,3 +4,6 @@ pub mod Finds
 pub mod Hits
 pub mod Sizes
 pub mod States
+pub mod Allowed
+pub mod Unread
+pub mod Columns

@@ -9,7 +9,7 @@ use Rattle.coproc_config.specs.Check.{fault, unit_checks, entry_checks, has_accu
 use Rattle.coproc_config.specs.declared.check.SetFault.{SetFault}
 use Rattle.coproc_config.specs.declared.check.SetCause.TheVariants.{TooManyUnits, BadMask, BadAccumulator, BadField}
 use Rattle.coproc_config.specs.declared.operation.Entry.{Entry}
-use Rattle.coproc_config.specs.Table.{line}
+use Rattle.coproc_config.specs.Table.{operation_line}
 use Rattle.coproc_config.proofs.Checks.{first_fault-parts, each, flat_map-flat_map}
 
 pub entries-within : (i : ℕ) (unit : UnitTable) → first_fault (unit_checks (i, unit)) ≡ Ok tt → length unit.entries ≤ 32
@@ -53,8 +53,8 @@ entries-few units i unit lawful found = entries-within i unit (each unit_checks 
 
 -- what an entry of a lawful set names is there
 pub record HasNamed (accumulators : ℕ) (e : Entry) : Type 0 where
-  pub accumulator : has_accumulator (line e.op).names e.acc accumulators ≡ true
-  pub bits : has_field (line e.op).names e.low e.len ≡ true
+  pub accumulator : has_accumulator (operation_line e.op).names e.acc accumulators ≡ true
+  pub bits : has_field (operation_line e.op).names e.low e.len ≡ true
 
 pub entry-named : (units : List UnitTable) (i j : ℕ) (unit : UnitTable) (e : Entry) → IsLawful units → slice_get units i ≡ Some unit → slice_get unit.entries j ≡ Some e → HasNamed unit.accumulators e
 entry-named units i j unit e lawful found listed =
@@ -63,5 +63,5 @@ entry-named units i j unit e lawful found listed =
     each (λ u. flat_map entry_checks (places_of u)) units i unit (ap first_fault (sym (flat_map-flat_map entry_checks places_of (enumerate_from 0 units))) ∙ all) found in
     let of_entry : first_fault (entry_checks (place_of (i, unit) (j, e))) ≡ Ok tt =
     each (λ entry. entry_checks (place_of (i, unit) entry)) unit.entries j e (ap first_fault (sym (flat_map-map entry_checks (place_of (i, unit)) (enumerate_from 0 unit.entries))) ∙ of_unit) listed in
-    let pass = all-three (bit_and e.matched e.mask == e.matched) (has_accumulator (line e.op).names e.acc unit.accumulators) (has_field (line e.op).names e.low e.len) (fault BadMask i j) (fault BadAccumulator i j) (fault BadField i j) of_entry in
+    let pass = all-three (bit_and e.matched e.mask == e.matched) (has_accumulator (operation_line e.op).names e.acc unit.accumulators) (has_field (operation_line e.op).names e.low e.len) (fault BadMask i j) (fault BadAccumulator i j) (fault BadField i j) of_entry in
     record { accumulator = pass.1; bits = pass.2 }

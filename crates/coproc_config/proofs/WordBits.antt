@@ -4,7 +4,7 @@ use Rattle.std.specs.Int.{reverse_bits_onto}
 use Rattle.std.specs.Int.RustNames.{unsigned_abs}
 use Rattle.std.proofs.lemmas.Nat.{and_mask, one_shl, and_block, or_block, and_le_l, or_comm, or_disjoint, pow-add, pow_pos, mul-add-lt, shr_below, mod_below}
 use Rattle.std.specs.Int.Bits.{and_zero_l, and_zero_r}
-use Rattle.std.proofs.Math.Nat.{pow-suc, pow-le-pow_right}
+use Rattle.std.proofs.Math.Nat.{pow-suc}
 use Rattle.std.proofs.lemmas.Int.{ints, int_rem_euclid_is}
 use lib.Count.{ones as all_ones, ones_step}
 use Rattle.coproc_config.specs.Bits.{with_field, reversed, ones, merged, modulo_64}
@@ -78,10 +78,6 @@ pub modulo_64-added : (q : ℕ) (p : ℤ) → FitsSigned w64 p → (q + of_z w64
 modulo_64-added q (pos n) f = refl
 modulo_64-added q (negsuc n) f =
     sym (ap unsigned_abs (int_rem_euclid_is (pos q +ℤ negsuc n) (pos 18446744073709551616) 18446744073709551616 1 (q + (18446744073709551616 - suc n)) (lit< tt) refl (omega (arith, ints))))
-
--- `1 << bit` at 8 bits
-pub flag-below : (bit top : ℕ) → bit ≤ top → top < 8 → 1 * 2 ^ bit % 256 ≤ 2 ^ top
-flag-below bit top h k = omega (arith, one_shl bit 8 (omega arith), pow-le-pow_right {n = 2} (lit< tt) h)
 
 -- a word whose bits are replaced is a word
 pub with_field-below : (word low len value : ℕ) → word < 2 ^ 32 → low + len ≤ 32 → with_field word low len value < 2 ^ 32

@@ -7,7 +7,7 @@ use Rattle.coproc_config.specs.declared.operation.Names.TheVariants as names
 use Rattle.coproc_config.specs.declared.check.SetFault.{SetFault}
 use Rattle.coproc_config.specs.declared.check.SetCause.{SetCause}
 use Rattle.coproc_config.specs.declared.check.SetCause.TheVariants.{TooManyUnits, TooManyEntries, BadMask, BadAccumulator, BadField}
-use Rattle.coproc_config.specs.Table.{line}
+use Rattle.coproc_config.specs.Table.{operation_line}
 use Rattle.coproc_config.specs.Set.{UnitTable, Place, places}
 
 abbrev pub fault : SetCause → ℕ → ℕ → SetFault
@@ -34,10 +34,18 @@ unit_checks unit =
 
 -- the checks of an entry
 abbrev pub entry_checks : Place → List (Bool × SetFault)
-entry_checks place =
-    (bit_and place.row.matched place.row.mask == place.row.matched, fault BadMask place.unit place.entry)
-    ∷ (has_accumulator (line place.row.op).names place.row.acc place.accumulators, fault BadAccumulator place.unit place.entry)
-    ∷ (has_field (line place.row.op).names place.row.low place.row.len, fault BadField place.unit place.entry)
+entry_checks place = (
+  bit_and place.row.matched place.row.mask == place.row.matched,
+  fault BadMask place.unit place.entry,
+)
+    ∷ (
+      has_accumulator (operation_line place.row.op).names place.row.acc place.accumulators,
+      fault BadAccumulator place.unit place.entry,
+    )
+    ∷ (
+      has_field (operation_line place.row.op).names place.row.low place.row.len,
+      fault BadField place.unit place.entry,
+    )
     ∷ []
 
 abbrev pub size_checks : List UnitTable → List (Bool × SetFault)
@@ -48,7 +56,9 @@ all_entry_checks units = flat_map entry_checks (places units)
 
 -- the checks of a set in their order, each a test and the fault where it fails
 abbrev pub checks : List UnitTable → List (Bool × SetFault)
-checks units = (nat_le (length units) 8, fault TooManyUnits 0 0) ∷ (size_checks units ++ all_entry_checks units)
+checks units =
+    (nat_le (length units) 8, fault TooManyUnits 0 0)
+    ∷ (size_checks units ++ all_entry_checks units)
 
 -- no check of a set fails
 abbrev pub IsLawful : List UnitTable → Type 0

@@ -5,3 +5,4 @@ pub mod State
 pub mod Check
 pub mod Accept
 pub mod Apply
+pub mod Laws

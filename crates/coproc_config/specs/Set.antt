@@ -1,4 +1,4 @@
--- A set of units, and the accumulators of a state.
+-- Sets of units: the entries of each unit, and the places of all entries in their order.
 use Rattle.std.specs.Prelude.{◌++◌, ◌-◌, ℕ, List, [], ◌∷◌, length, map, slice_set, slice_index_or}
 use Rattle.std.specs.List.{flat_map, enumerate_from}
 use Rattle.coproc_config.specs.declared.operation.Entry.{Entry}
@@ -19,9 +19,11 @@ with_entry unit entry = record unit { entries = unit.entries ++ entry ∷ [] }
 -- a set with one more entry, at the end of its last unit
 abbrev pub with_last_entry : List UnitTable → Entry → List UnitTable
 with_last_entry units entry =
-    slice_set units (length units - 1) (with_entry (slice_index_or units (length units - 1) (new_unit 0)) entry)
+    slice_set units (length units - 1)
+    (with_entry (slice_index_or units (length units - 1) (new_unit 0)) entry)
 
--- an entry of a set, with the number of its unit, its own number in the unit, and the unit's number of accumulators
+-- an entry of a set, with the number of its unit, its own number in the unit, and the unit's number
+-- of accumulators
 pub record Place : Type 0 where
   pub unit : ℕ
   pub entry : ℕ

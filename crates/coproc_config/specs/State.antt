@@ -26,4 +26,5 @@ with_accumulator state unit acc value =
 
 -- the state has the set's numbers of units and of accumulators
 abbrev pub IsStateOf : List UnitTable → List (List ℕ) → Type 0
-IsStateOf units state = map (λ accumulators. length accumulators) state ≡ map (λ unit. unit.accumulators) units
+IsStateOf units state =
+    map (λ accumulators. length accumulators) state ≡ map (λ unit. unit.accumulators) units

@@ -1,21 +1,22 @@
-// Which entry takes a word.
-ghost use Rattle.std.specs.Prelude.{◌≡◌, ◌≤◌, ◌<◌, ◌^◌, ◌+◌, ◌*◌, ◌%◌, ◌&&◌, ℕ, Some, length, find, slice_get, nat_lt, bit_and, IfSome, IsSome, IsTrue};
+//! Which entry takes a word, and the issue response that it gets.
+ghost use Rattle.std.specs.Prelude.{◌≡◌, ◌≤◌, ◌<◌, ◌%◌, ◌&&◌, ℕ, Some, length, find, slice_get, nat_lt, IfSome, IsTrue};
 ghost use Rattle.std.specs.Option.{option_map};
 ghost use Rattle.xif_base.specs.Params.{IsInRange};
 ghost use Rattle.xif_base.specs.Flags.{even_bit, odd_bit};
-ghost use Rattle.coproc_config.specs.Table.{line, write_flags as write_flags_of};
+ghost use Rattle.coproc_config.specs.Table.{operation_line, write_flags as write_flags_of};
 ghost use Rattle.coproc_config.specs.Set.{places_of};
 ghost use Rattle.coproc_config.specs.Check.{IsLawful};
 ghost use Rattle.rv32_table.specs.Instr.{rd_field as rd_field_of, source_field};
-ghost use Rattle.coproc_config.specs.Accept.{is_even, can_read, can_write, takes, flag_of, read_flags as read_flags_of, hit_at, hit_of, entry_at, HasFlagsOf};
+ghost use Rattle.coproc_config.specs.Accept.{is_even, can_read, can_write, takes, flag_of, read_flags as read_flags_of, hit_at, hit_of, entry_at, HasFlagsOf, IsAllowed};
 
 use crate::operation::{Entry, Reads, Writes};
 use crate::set::{Set, Unit};
+use bitflags::Flags;
 use rv32_table::{rd_field, rs_field};
 use xif_base::{Params, ReadFlags, WriteFlags};
 
-/// The entry that takes a word, by the number of its unit and its own number there, from 0, and what
-/// the issue response says of it (CV-X-IF 1.0.0, section "Issue interface").
+/// The entry that takes a word, by the number of its unit and its own number there, both from 0,
+/// and the issue response (CV-X-IF 1.0.0, section "Issue interface").
 #[derive(Clone, Copy, Debug, PartialEq, Eq)]
 pub struct Hit {
     pub unit: u8,
@@ -28,13 +29,16 @@ pub struct Hit {
 
 impl Set {
     /// The first entry, in unit order and then entry order, that matches the word and that the
-    /// parameters allow: each lane that it reads is there, pairs are read below X_DUALREAD from even
-    /// registers, and a pair is written only with X_DUALWRITE, to an even register.
+    /// parameters allow: each lane that it reads is there, pairs are read below X_DUALREAD from
+    /// even registers, and a pair is written only with X_DUALWRITE, to an even register. `None` if
+    /// and only if there is no such entry: the word is then not accepted.
     pub fn accept(&self, params: &Params, word: u32) -> Option<Hit>
         requires lawful { IsLawful self.now }
         requires params { IsInRange params.now }
         ensures first { result ≡ hit_of self.now params.now word }
-        ensures flags { IfSome result (λ hit. HasFlagsOf (entry_at self.now hit) params.now hit) }
+        ensures flags { IfSome result
+            (λ hit. HasFlagsOf (entry_at self.now hit) params.now word hit) }
+        ensures allowed { IfSome result (IsAllowed params.now word) }
 
         // A pair is written to an even register.
         ensures pair { IfSome result (λ hit. hit.writeback.0 ≡ 3 → rd_field_of word % 2 ≡ 0) }
@@ -57,8 +61,7 @@ impl Unit {
             (find (λ place. takes params.now word place.row) (places_of (unit, self.now))) }
         ensures unit { IfSome result (λ hit. hit.unit ≡ unit) }
         ensures flags { IfSome result
-            (λ hit. HasFlagsOf (slice_get self.now.entries hit.entry) params.now hit) }
-        ensures pair { IfSome result (λ hit. hit.writeback.0 ≡ 3 → rd_field_of word % 2 ≡ 0) }
+            (λ hit. HasFlagsOf (slice_get self.now.entries hit.entry) params.now word hit) }
     {
         for i in 0..self.len() {
             let entry = self.get(i);
@@ -76,10 +79,11 @@ impl Unit {
 }
 
 impl Entry {
+    /// Whether the entry matches the word, and the parameters allow it.
     fn takes(&self, params: &Params, word: u32) -> bool
         ensures takes { result ≡ takes params.now word self.now }
-        ensures readable { IsTrue result → IsTrue (can_read params.now word (line self.now.op).reads) }
-        ensures writable { IsTrue result → write_flags_of (line self.now.op).writes ≡ 3 → rd_field_of word % 2 ≡ 0 }
+        ensures readable { IsTrue result
+            → IsTrue (can_read params.now word (operation_line self.now.op).reads) }
     {
         word & self.mask == self.matched
             && is_readable(self.op.reads(), params, word)
@@ -106,8 +110,7 @@ fn is_readable(reads: Reads, params: &Params, word: u32) -> bool
 }
 
 fn is_writable(writes: Writes, params: &Params, word: u32) -> bool
-    ensures value { result ≡ can_write params.now word writes }
-    ensures even { IsTrue result → write_flags_of writes ≡ 3 → rd_field_of word % 2 ≡ 0 }
+    ensures { result ≡ can_write params.now word writes }
 {
     match writes {
         Writes::Nothing | Writes::One => true,
@@ -136,25 +139,21 @@ fn read_flags(reads: Reads, params: &Params) -> ReadFlags
     let bits = match reads {
         Reads::Nothing => 0,
         Reads::A => low_flag(params, 0),
-        Reads::AB => low_flag(params, 0) + low_flag(params, 1),
-        Reads::ABC => low_flag(params, 0) + low_flag(params, 1) + low_flag(params, 2),
-        Reads::PairA => low_flag(params, 0) + high_flag(params, 0),
+        Reads::AB => low_flag(params, 0) | low_flag(params, 1),
+        Reads::ABC => low_flag(params, 0) | low_flag(params, 1) | low_flag(params, 2),
+        Reads::PairA => low_flag(params, 0) | high_flag(params, 0),
         Reads::PairAB => {
-            low_flag(params, 0) + low_flag(params, 1) + high_flag(params, 0) + high_flag(params, 1)
+            low_flag(params, 0) | low_flag(params, 1) | high_flag(params, 0) | high_flag(params, 1)
         }
     };
-    match ReadFlags::from_bits(bits) {
-        Some(flags) => flags,
-        None => unreachable!(),
-    }
+    ReadFlags::from_bits_retain(bits)
 }
 
 /// The flag of the low half of a lane.
 fn low_flag(params: &Params, lane: u8) -> u8
     requires params { IsInRange params.now }
     requires lane { lane < params.now.num_rs }
-    ensures value { result ≡ flag_of (Some (even_bit params.now lane)) }
-    ensures most { result ≤ 2 ^ (2 * lane) }
+    ensures { result ≡ flag_of (Some (even_bit params.now lane)) }
 {
     1 << ReadFlags::even_bit(params, lane)
 }
@@ -163,25 +162,21 @@ fn low_flag(params: &Params, lane: u8) -> u8
 fn high_flag(params: &Params, lane: u8) -> u8
     requires params { IsInRange params.now }
     requires lane { lane < params.now.num_rs }
-    ensures value { result ≡ flag_of (odd_bit params.now lane) }
-    ensures most { result ≤ 2 ^ (2 * lane + 1) }
+    ensures { result ≡ flag_of (odd_bit params.now lane) }
 {
-    match ReadFlags::odd_bit(params, lane) {
-        Some(bit) => 1 << bit,
-        None => 0,
+    if let Some(bit) = ReadFlags::odd_bit(params, lane) {
+        1 << bit
+    } else {
+        0
     }
 }
 
 fn write_flags(writes: Writes) -> WriteFlags
     ensures { result.0 ≡ write_flags_of writes }
 {
-    let bits = match writes {
+    WriteFlags::from_bits_retain(match writes {
         Writes::Nothing => 0,
-        Writes::One => 1,
-        Writes::Pair => 3,
-    };
-    match WriteFlags::from_bits(bits) {
-        Some(flags) => flags,
-        None => unreachable!(),
-    }
+        Writes::One => WriteFlags::RD.bits(),
+        Writes::Pair => WriteFlags::RD.bits() | WriteFlags::NEXT.bits(),
+    })
 }

@@ -1,4 +1,4 @@
-// The checks of a set.
+//! The checks of a set, which a set has to pass before it is used.
 ghost use Rattle.std.specs.Prelude.{◌≡◌, ◌≤◌, ◌↔◌, ◌+◌, ◌&&◌, nat_lt, nat_le, Ok, length, IsOk};
 ghost use Rattle.std.specs.List.{flat_map};
 ghost use Rattle.xif_base.specs.Checks.{first_fault};
@@ -23,8 +23,8 @@ pub enum SetCause {
     BadField,
 }
 
-/// What is wrong with a set, and where: the numbers of a unit and of its entry, from 0. The entry is 0
-/// for a fault of a unit, and both are 0 for a fault of the whole set.
+/// What is wrong with a set, and where: the numbers of a unit and of its entry, from 0. The entry
+/// is 0 for a fault of a unit, and both are 0 for a fault of the whole set.
 #[derive(Clone, Copy, Debug, PartialEq, Eq)]
 pub struct SetFault {
     pub cause: SetCause,
@@ -33,8 +33,8 @@ pub struct SetFault {
 }
 
 impl Set {
-    /// The first fault: first that of the whole set, then those of the units in order, then those of
-    /// the entries in unit order and then entry order.
+    /// Checks a set, and reports its first fault: that of the whole set comes first, then those of
+    /// the units in order, then those of the entries in unit order and then entry order.
     pub fn check(&self) -> Result<(), SetFault>
         ensures lawful { IsOk result ↔ IsLawful self.now }
         ensures first { result ≡ first_fault (checks self.now) }

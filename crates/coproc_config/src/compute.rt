@@ -1,12 +1,13 @@
-// What the operations compute.
+//! What the operations compute.
 ghost use Rattle.std.specs.Prelude.{◌≡◌, ◌≤◌, ◌<◌, ◌+◌, ◌*◌, ◌%◌, ◌^◌, ◌+ℤ◌, ◌*ℤ◌, pos, IsTrue};
-ghost use Rattle.rv32_table.specs.Word.{sign_extended};
-ghost use Rattle.coproc_config.specs.Bits.{low_half as low_half_of, high_half as high_half_of, field, with_field, reversed, ones as ones_of, merged, signed, modulo_64};
-ghost use Rattle.coproc_config.specs.Table.{line, write_flags, result_bits};
+ghost use Rattle.rv32_table.specs.Word.{signed, sign_extended};
+ghost use Rattle.coproc_config.specs.Bits.{low_half as low_half_of, high_half as high_half_of, field, with_field, reversed, ones as ones_of, merged, modulo_64};
+ghost use Rattle.coproc_config.specs.Table.{operation_line, write_flags, result_bits};
 ghost use Rattle.coproc_config.specs.Check.{has_field};
 ghost use Rattle.coproc_config.specs.Apply.{inputs};
 
 use crate::operation::{Entry, Op};
+use rv32_table::sign_extend;
 
 /// The lanes of an instruction, 64 bits each: a register in the low half, and the odd register of a
 /// pair in the high half.
@@ -16,11 +17,13 @@ pub struct Operands {
 }
 
 impl Entry {
-    /// The result, where `q` is the accumulator that the entry names, and anything where it names none.
+    /// The result, where `q` is the accumulator that the entry names, and anything where it names
+    /// none.
     pub(crate) fn result(&self, operands: &Operands, q: u64) -> u64
-        requires { IsTrue (has_field (line self.now.op).names self.now.low self.now.len) }
-        ensures value { result ≡ (line self.now.op).result (inputs self.now q operands.now.lanes) }
-        ensures bits { result < 2 ^ result_bits (write_flags (line self.now.op).writes) }
+        requires { IsTrue (has_field (operation_line self.now.op).names self.now.low self.now.len) }
+        ensures value { result
+            ≡ (operation_line self.now.op).result (inputs self.now q operands.now.lanes) }
+        ensures bits { result < 2 ^ result_bits (write_flags (operation_line self.now.op).writes) }
     {
         let [wide_a, wide_b, wide_c] = operands.lanes;
         let a = low_half(wide_a);
@@ -44,7 +47,8 @@ impl Entry {
 
     /// What the accumulator `q` becomes.
     pub(crate) fn accumulator(&self, operands: &Operands, q: u64) -> u64
-        ensures { result ≡ (line self.now.op).accumulator (inputs self.now q operands.now.lanes) }
+        ensures { result
+            ≡ (operation_line self.now.op).accumulator (inputs self.now q operands.now.lanes) }
     {
         let a = low_half(operands.lanes[0]);
         match self.op {
@@ -91,12 +95,7 @@ fn extract_signed(word: u32, low: u8, len: u8) -> u32
     requires within { low + len ≤ 32 }
     ensures { result ≡ sign_extended len (field word low len) }
 {
-    let value = extract(word, low, len);
-    if len == 32 || value < 1 << (len - 1) {
-        value
-    } else {
-        value + (u32::MAX - (1 << len) + 1)
-    }
+    sign_extend(extract(word, low, len), len)
 }
 
 /// A word with bits replaced by the low bits of a value.

@@ -1,9 +1,9 @@
-// The operations, and what the table says of them.
+//! The operations and the entries, and what the table says of an operation.
 ghost use Rattle.std.specs.Prelude.{◌≡◌};
-ghost use Rattle.coproc_config.specs.Table.{line};
+ghost use Rattle.coproc_config.specs.Table.{operation_line};
 
-/// An operation of a coprocessor. `a`, `b` and `c` are the low halves of lanes 0, 1 and 2, a pair is
-/// a whole lane of 64 bits, and Q is the accumulator that the entry names, modulo 2^64.
+/// An operation of a coprocessor. a, b and c are the low halves of lanes 0, 1 and 2, a pair is a
+/// whole lane of 64 bits, and Q is the accumulator that the entry names, modulo 2^64.
 #[derive(Clone, Copy, Debug, PartialEq, Eq)]
 pub enum Op {
     /// Bits `low` to `low + len - 1` of a, extended by 0.
@@ -40,10 +40,10 @@ pub enum Op {
     PairSum,
 }
 
-/// An entry of a unit: the words that it takes, and what it does with them. It takes a word whose bits
-/// under `mask` are `matched`. `acc` is the number of an accumulator of the unit, 0 to 15; `low`
-/// (0 to 31) and `len` (1 to 32) name bits of a word. An operation that names none of them ignores
-/// them.
+/// An entry of a unit: the words that it takes, and what it does with them. It takes a word whose
+/// bits under `mask` are `matched`. `acc` is the number of an accumulator of the unit, 0 to 15;
+/// `low` (0 to 31) and `len` (1 to 32) name bits of a word, `low` to `low + len - 1`. An operation
+/// that doesn't name them ignores them.
 #[derive(Clone, Copy, Debug, PartialEq, Eq)]
 pub struct Entry {
     pub mask: u32,
@@ -84,8 +84,9 @@ pub enum Names {
 }
 
 impl Op {
+    /// The lanes that the operation reads.
     pub(crate) fn reads(self) -> Reads
-        ensures { result ≡ (line self).reads }
+        ensures { result ≡ (operation_line self).reads }
     {
         match self {
             Op::AccClear | Op::AccReadLow | Op::AccReadHigh | Op::PairRead => Reads::Nothing,
@@ -98,8 +99,9 @@ impl Op {
         }
     }
 
+    /// The registers that it writes.
     pub(crate) fn writes(self) -> Writes
-        ensures { result ≡ (line self).writes }
+        ensures { result ≡ (operation_line self).writes }
     {
         match self {
             Op::AccClear | Op::AccAdd | Op::AccMac => Writes::Nothing,
@@ -108,8 +110,9 @@ impl Op {
         }
     }
 
+    /// What it uses of its entry beside the words that the entry takes.
     pub(crate) fn names(self) -> Names
-        ensures { result ≡ (line self).names }
+        ensures { result ≡ (operation_line self).names }
     {
         match self {
             Op::ExtractU | Op::ExtractS | Op::Insert => Names::Field,

@@ -1,4 +1,4 @@
-// Units and sets of units.
+//! Units, which are lists of entries, and sets of units.
 ghost use Rattle.std.specs.Prelude.{◌≡◌, ◌<◌, ◌++◌, [], ◌∷◌, Some, length, slice_get, IfOk, OnOk, OnErr};
 ghost use Rattle.coproc_config.specs.Set.{new_unit, with_entry, with_last_entry};
 
@@ -56,6 +56,7 @@ impl Unit {
         self.entries.len()
     }
 
+    /// The entry with this number, from 0.
     pub fn get(&self, i: usize) -> &Entry
         requires { i < length self.now.entries }
         ensures { slice_get self.now.entries i ≡ Some result.now }
@@ -129,6 +130,7 @@ impl Set {
         self.units.len()
     }
 
+    /// The unit with this number, from 0.
     pub fn get(&self, i: usize) -> &Unit
         requires { i < length self.now }
         ensures { slice_get self.now i ≡ Some result.now }

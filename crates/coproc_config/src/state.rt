@@ -1,4 +1,4 @@
-// The accumulators of all units.
+//! The accumulators of all units.
 ghost use Rattle.std.specs.Prelude.{◌≡◌, ◌<◌, ℕ, length, map, replicate, slice_set, slice_index, IfOk};
 ghost use Rattle.coproc_config.specs.State.{zeros, accumulators_of, accumulator_of, HasAccumulator, with_accumulator, IsStateOf};
 
@@ -113,6 +113,7 @@ impl UnitState {
         self.units[unit].as_slice()
     }
 
+    /// The value of one accumulator, by the number of its unit and its own number there, from 0.
     pub fn get(&self, unit: u8, acc: u8) -> u64
         requires { HasAccumulator self.now unit acc }
         ensures { result ≡ accumulator_of self.now unit acc }

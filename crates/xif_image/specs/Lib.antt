@@ -1,3 +1,4 @@
 pub mod Region
 pub mod Image
 pub mod Text
+pub mod Grammar

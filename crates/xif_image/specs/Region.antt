@@ -1,7 +1,6 @@
 -- Memory as the instructions see it: bytes at addresses, the lowest byte of a number first.
 use Rattle.std.specs.Prelude.{◌≡◌, ◌+◌, ◌-◌, ◌%◌, ◌==◌, ◌&&◌, ◌⊎◌, ◌++◌, ℕ, List, length, take, drop, Bool, Option, Some, None, Result, Ok, Err, nat_le, if◌then◌else◌}
 use Rattle.std.specs.Int.{w32, from_le_bytes, to_le_bytes}
-use Rattle.std.specs.Result.{result_ok}
 use Rattle.xif_image.specs.declared.memory.MemFault.{MemFault}
 use Rattle.xif_image.specs.declared.memory.MemFault.TheVariants.{Misaligned, Outside}
 
@@ -16,12 +15,16 @@ IsWidth width = (width ≡ 1) ⊎ ((width ≡ 2) ⊎ (width ≡ 4))
 
 -- so many bytes from an address on lie in the region
 abbrev pub is_inside : Region → ℕ → ℕ → Bool
-is_inside m address count = nat_le m.base address && nat_le (address + count) (m.base + length m.bytes)
+is_inside m address count =
+    nat_le m.base address && nat_le (address + count) (m.base + length m.bytes)
 
--- why so many bytes from an address on can't be moved: the address is no multiple of their number, or else one lies outside
+-- why so many bytes from an address on can't be moved: the address is no multiple of their number,
+-- or else one lies outside
 abbrev pub fault_of : Region → ℕ → ℕ → Option MemFault
 fault_of m address width =
-    if address % width == 0 then (if is_inside m address width then None else Some Outside) else Some Misaligned
+    if address % width == 0
+    then (if is_inside m address width then None else Some Outside)
+    else Some Misaligned
 
 -- a value, if there is no fault
 abbrev pub unless : {A E : Type 0} → Option E → A → Result A E
@@ -32,19 +35,27 @@ unless (Some fault) value = Err fault
 abbrev pub bytes_at : Region → ℕ → ℕ → List ℕ
 bytes_at m address count = take count (drop (address - m.base) m.bytes)
 
--- what a load gives: the number whose lowest bytes stand at the address; its others are 0
+-- what a load returns: the number whose lowest bytes are those at the address, its others being 0
 abbrev pub loaded : Region → ℕ → ℕ → Result ℕ MemFault
-loaded m address width = unless (fault_of m address width) (from_le_bytes w32 (bytes_at m address width))
+loaded m address width =
+    unless (fault_of m address width) (from_le_bytes w32 (bytes_at m address width))
 
--- the word at an address, if four bytes can be loaded there
+-- The word at an address, which a fetch reads. There is none where the address is no multiple of 4,
+-- or where one of the four bytes lies outside.
 abbrev pub word_at : Region → ℕ → Option ℕ
-word_at m address = result_ok (loaded m address 4)
+word_at m address =
+    if (address % 4 == 0) && is_inside m address 4
+    then Some (from_le_bytes w32 (bytes_at m address 4))
+    else None
 
 -- bytes, after others were put over them from an index on
 abbrev pub overwritten : List ℕ → ℕ → List ℕ → List ℕ
 overwritten bytes at others = take at bytes ++ others ++ drop (at + length others) bytes
 
--- the region after a store: the lowest bytes of a value stand at the address
+-- the region after a store, which puts the lowest bytes of a value at the address
 abbrev pub stored : Region → ℕ → ℕ → ℕ → Region
 stored m address width value =
-    record { base = m.base; bytes = overwritten m.bytes (address - m.base) (take width (to_le_bytes w32 value)) }
+    record {
+      base = m.base;
+      bytes = overwritten m.bytes (address - m.base) (take width (to_le_bytes w32 value));
+    }

@@ -1,3 +1,4 @@
+//! Images: bytes with their addresses, made of the bytes of a file or of a text.
 ghost use Rattle.std.specs.Prelude.{◌≡◌, ◌≤◌, ◌<◌, ◌+◌, ◌^◌, ◌⊎◌, ℕ, length, IfOk, IfErr, OnOk, All, EachIndex};
 ghost use Rattle.std.specs.Option.{SomeIff};
 ghost use Rattle.xif_image.specs.Image.{bytes_from, IsWithin, IsFirstOutside, raw_image};
@@ -34,17 +35,17 @@ impl Model for Image {
     ghost invariant = { λ i. All (λ b. IsWithin i.base i.size b.address) i.bytes.items };
 }
 
-/// Why an image can't be made. Of several faults of a text the first one is told.
+/// Why an image can't be made. Of several faults of a text the first one is reported.
 #[derive(Clone, Copy, Debug, PartialEq, Eq)]
 pub enum ImageFault {
     /// The token at this offset of the text, in bytes, is neither a byte nor an address.
     BadToken { at: u64 },
-    /// The byte at this index of the image, or the one whose token is at this offset of the text, has
-    /// an address outside the memory; it is the first one.
+    /// The byte at this index of the image, or the one whose token is at this offset of the text,
+    /// has an address outside the memory; it is the first one.
     Outside { at: u64 },
     /// The text has no byte, and no other fault.
     Empty,
-    /// There is no memory left for the image.
+    /// Out of memory.
     NoMemory,
 }
 
@@ -72,7 +73,7 @@ impl<T: Drop> From<AllocFailed<T>> for ImageFault {
 
 impl Image {
     /// The bytes of a file as they are, the first one at the address `load`, for a memory of `size`
-    /// bytes from `base` on.
+    /// bytes from `base` on. The only other fault than out of memory is a byte outside.
     pub fn raw(
         alloc: Global,
         bytes: &[u8],
@@ -81,9 +82,11 @@ impl Image {
         size: u32,
     ) -> Result<Image, ImageFault>
         requires { base + size ≤ 2 ^ 32 }
-        ensures image { IfOk result (λ image. image ≡ record { base = base; size = size; bytes = bytes_from load bytes.now }) }
+        ensures image { IfOk result (λ image.
+            image ≡ record { base = base; size = size; bytes = bytes_from load bytes.now }) }
         ensures inside { OnOk result (EachIndex bytes.now (λ i. IsWithin base size (load + i))) }
-        ensures outside { (at : ℕ) → result ≡ Err (ImageFault.Outside at) → IsFirstOutside base size load (length bytes.now) at }
+        ensures outside { (at : ℕ) → result ≡ Err (ImageFault.Outside at)
+            → IsFirstOutside base size load (length bytes.now) at }
         ensures fault { IfErr result (λ fault.
             (fault ≡ ImageFault.NoMemory) ⊎ ((at : ℕ) × (fault ≡ ImageFault.Outside at))) }
 
@@ -94,13 +97,13 @@ impl Image {
     {
         let mut placed = Vec::with_capacity(alloc, bytes.len())?;
         for (at, value) in bytes.iter().enumerate() {
-            match address_of(load, at as u64, base, size) {
-                Some(address) => placed.push(ByteAt {
-                    address,
-                    value: *value,
-                })?,
-                None => return Err(ImageFault::Outside { at: at as u64 }),
-            }
+            let Some(address) = address_of(load, at as u64, base, size) else {
+                return Err(ImageFault::Outside { at: at as u64 });
+            };
+            placed.push(ByteAt {
+                address,
+                value: *value,
+            })?;
         }
         Ok(Image {
             base,
@@ -110,11 +113,11 @@ impl Image {
     }
 
     /// The bytes of a text, for a memory of `size` bytes from `base` on. The text is that of
-    /// `$readmemh` (IEEE 1364, 17.2.9), of bytes alone. Its tokens stand between white space and
-    /// comments, which go from `//` to the end of the line or from `/*` to `*/`. Two hex digits are a
-    /// byte. The first byte stands at `base`, and each other one behind the one before it; but `@`
-    /// with one to eight hex digits is the address of the next byte. Nothing else is a token: an open
-    /// comment is a fault at its first byte.
+    /// `$readmemh` (IEEE 1364-2005, 17.2.9), of bytes alone. Its tokens are separated by white
+    /// space and comments, which go from `//` to the end of the line or from `/*` to `*/`. Two hex
+    /// digits are a byte. The first byte is at `base`, and each other one behind the one before it;
+    /// but `@` with one to eight hex digits is the address of the next byte. Nothing else is a
+    /// token: an open comment is a fault at its first byte.
     pub fn text(alloc: Global, bytes: &[u8], base: u32, size: u32) -> Result<Image, ImageFault>
         requires { base + size ≤ 2 ^ 32 }
         ensures image { IfOk result (λ image. text_image base size bytes.now ≡ Ok image) }
@@ -133,6 +136,7 @@ impl Image {
         })
     }
 
+    /// The bytes with their addresses, in the order in which they are placed.
     pub(crate) fn bytes(&self) -> &[ByteAt]
         ensures bytes { result.now ≡ self.now.bytes }
         ensures within { All (λ b. IsWithin self.now.base self.now.size b.address) self.now.bytes }

@@ -1,3 +1,4 @@
+//! Memory: bytes from a base address on, with loads, stores and fetches.
 ghost use Rattle.std.specs.Prelude.{◌≡◌, ◌≤◌, ◌<◌, ◌+◌, ◌-◌, ◌*◌, ◌%◌, ◌==◌, ◌^◌, ℕ, List, length, replicate, IfOk, OnOk, OnErr, All};
 ghost use Rattle.xif_image.specs.Region.{IsWidth, fault_of, unless, loaded, word_at, overwritten, stored};
 ghost use Rattle.xif_image.specs.Image.{placed, bytes_from, bytes_after, IsWithin};
@@ -25,7 +26,7 @@ impl Model for Memory {
     ghost invariant = { λ m. (vec_len m.bytes < 2 ^ 32) × (m.base + vec_len m.bytes ≤ 2 ^ 32) };
 }
 
-/// Why a load or a store can't be done.
+/// Why a load or a store can't be done. A misaligned one is reported as that, wherever it lies.
 #[derive(Clone, Copy, Debug, PartialEq, Eq)]
 pub enum MemFault {
     /// One of the bytes lies outside the memory.
@@ -78,8 +79,9 @@ impl Memory {
         self.bytes.as_slice()
     }
 
-    /// The number of `width` bytes at an address. It is refused where the address is no multiple of
-    /// the width, and else where a byte lies outside.
+    /// The number of `width` bytes at an address, little-endian and extended by 0 (RISC-V
+    /// Unprivileged ISA, section 2.6). It is refused where the address is no multiple of the width,
+    /// and else where a byte lies outside.
     pub fn load(&self, addr: u32, width: u8) -> Result<u32, MemFault>
         requires { IsWidth width }
         ensures loaded { result ≡ loaded self.now addr width }
@@ -112,8 +114,8 @@ impl Memory {
         Ok(())
     }
 
-    /// The 32-bit word at an address: `None` where the address is no multiple of 4 or one of its
-    /// bytes lies outside.
+    /// The 32-bit word at an address, as a fetch reads it: `None` if and only if the address is no
+    /// multiple of 4 or one of its bytes lies outside.
     pub fn word(&self, addr: u32) -> Option<u32>
         ensures { result ≡ word_at self.now addr }
     {

@@ -1,7 +1,8 @@
+//! Reading the text of an image: its tokens, and what each says.
 ghost use Rattle.std.specs.Prelude.{◌≡◌, ◌≤◌, ◌<◌, ◌+◌, ◌-◌, ◌^◌, ◌⊎◌, ◌==◌, ◌∷◌, [], ℕ, position, length, take, drop, IfOk, IfErr, IfSome, All};
 ghost use Rattle.std.specs.Option.{option_map_or};
 ghost use Rattle.xif_image.specs.Image.{IsWithin};
-ghost use Rattle.xif_image.specs.Text.{is_white, comment_length, blank_length, ends_token, token_length, length_before, Token, tokens_from, tokens_of, address_in, item_of, placed_by};
+ghost use Rattle.xif_image.specs.Text.{line_feed, is_white, comment_length, blank_length, ends_token, token_length, length_before, Token, tokens_from, tokens_of, address_in, item_of, placed_by};
 
 use crate::image::{ByteAt, ImageFault, address_of};
 use std::alloc::Global;
@@ -11,7 +12,7 @@ use std::alloc::Global;
 pub(crate) enum Item {
     /// The address of the next byte.
     Address(u32),
-    /// A byte, which stands at the address that comes after the one before it.
+    /// A byte, whose address is the one behind that of the byte before it.
     Byte(u8),
 }
 
@@ -26,11 +27,11 @@ pub(crate) fn read(
     ensures placed { IfOk result (λ placed.
         placed_by base size base (tokens_of bytes.now) ≡ Ok placed.items) }
     ensures within { IfOk result (λ placed. All (λ b. IsWithin base size b.address) placed.items) }
-    ensures fault { IfErr result (λ fault.
-        (fault ≡ ImageFault.NoMemory) ⊎ (placed_by base size base (tokens_of bytes.now) ≡ Err fault)) }
+    ensures fault { IfErr result (λ fault. (fault ≡ ImageFault.NoMemory)
+        ⊎ (placed_by base size base (tokens_of bytes.now) ≡ Err fault)) }
 {
     let mut placed = Vec::new(alloc);
-    // The next byte stands so many bytes behind the last address that was set.
+    // The next byte is `count` bytes behind `load`, the last address that was set.
     let mut load = base;
     let mut count = 0;
     let mut at = 0;
@@ -91,7 +92,7 @@ fn blank_length(bytes: &[u8]) -> usize
 }
 
 fn line_feed(bytes: &[u8]) -> Option<usize>
-    ensures { result ≡ position (λ b. b == 10) bytes.now }
+    ensures { result ≡ position (λ b. b == line_feed) bytes.now }
 {
     bytes.iter().position(|b| *b == b'\n')
 }

@@ -1,4 +1,4 @@
-// Each operation, and the public calls, on values from another model.
+//! Each operation, and the public calls on coprocessor units, on values from an independent model.
 ghost use Rattle.coproc_config.specs.State.{IsStateOf};
 
 use coproc_config::{Entry, Op, Operands, Set, SetCause, SetFault, UnitState};
@@ -249,8 +249,8 @@ fn operations_by_their_table(rt: HostRuntime) -> Result<(), Fail> {
     outcomes_are(&rt, rt.alloc(), &PAIRS)
 }
 
-/// What is wrong with a set of two units. The second has this number of accumulators, and so many entries
-/// before its last.
+/// What is wrong with a set of two units. The second has this number of accumulators, and `before`
+/// entries before its last.
 fn check(
     rt: &impl Abort,
     alloc: Global,
@@ -356,8 +356,8 @@ fn sets_are_checked_in_order(rt: HostRuntime) -> Result<(), Fail> {
     Ok(())
 }
 
-/// `num_rs`, `dual_read`, `dual_write` and a word; the numbers of the unit and of its entry that takes it,
-/// and the bits of what it reads and writes.
+/// `num_rs`, `dual_read`, `dual_write` and a word; the numbers of the unit and of its entry that takes
+/// it, and the bits of what it reads and writes.
 type Taken = (u8, u8, bool, u32, Option<(u8, u8, u8, u8)>);
 
 const BY_SEVEN: [Taken; 16] = [

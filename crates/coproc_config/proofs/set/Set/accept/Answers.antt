@@ -1,6 +1,7 @@
 use Rattle.std.proofs.Common.{sym, ◌∙◌}
 use Rattle.coproc_config.specs.Set.{places_of}
 use Rattle.coproc_config.specs.Accept.{takes, hit_at}
+use Rattle.coproc_config.proofs.Allowed.{allowed}
 use Rattle.coproc_config.proofs.Finds.{missed, met}
 use Rattle.coproc_config.proofs.Hits.{entry_at-unit}
 use Rattle.coproc_config.proofs.Sizes.{entries-few}
@@ -20,9 +21,16 @@ returns-in-Some-clause-flags c =
     record {
       entry = flags.entry;
       there = entry_at-unit c.args.self.now c.in-Some.hit c.loop-i.i c.get.result.now c.in-Some.ensures.unit c.get.ensures ∙ flags.there;
+      taken = flags.taken;
       reads = flags.reads;
       writes = flags.writes;
     }
+
+pub returns-in-Some-clause-allowed : goal.returns-in-Some-clause-allowed
+returns-in-Some-clause-allowed c = allowed _ c.args.params.now c.args.word c.in-Some.hit c.requires.params (returns-in-Some-clause-flags c)
+
+pub returns-in-Some-clause-pair : goal.returns-in-Some-clause-pair
+returns-in-Some-clause-pair c = λ e. ((returns-in-Some-clause-allowed c).write_pairs e).1
 
 pub loop-i-preserved : goal.loop-i-preserved
 loop-i-preserved c =

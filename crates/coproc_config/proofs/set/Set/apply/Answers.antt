@@ -1,5 +1,5 @@
 use Rattle.std.proofs.Common.{◌≡◌, Some, slice_get, refl, sym, ap, ◌∙◌}
-use Rattle.coproc_config.specs.Table.{line}
+use Rattle.coproc_config.specs.Table.{operation_line}
 use Rattle.coproc_config.specs.Accept.{entry_at}
 use Rattle.coproc_config.proofs.Hits.{entry_at-unit}
 use Rattle.coproc_config.proofs.Sizes.{entry-named}
@@ -13,7 +13,7 @@ get-q-requires c =
     let e = c.get-entry.result.now in
     let found : slice_get units c.args.hit.now.unit ≡ Some unit = ap (slice_get units) (sym c.from.ensures) ∙ c.get.ensures in
     let named = entry-named units c.from.result c.from-2.result unit e c.requires.lawful c.get.ensures c.get-entry.ensures in
-    accumulator-there units c.args.state.now c.args.hit.now.unit unit e.acc (line e.op).names c.requires.state found named.accumulator (sym c.names.ensures ∙ c.in-Accumulator.is)
+    accumulator-there units c.args.state.now c.args.hit.now.unit unit e.acc (operation_line e.op).names c.requires.state found named.accumulator (sym c.names.ensures ∙ c.in-Accumulator.is)
 
 pub put-requires : goal.put-requires
 put-requires c =
@@ -22,7 +22,7 @@ put-requires c =
     let e = c.get-entry.result.now in
     let found : slice_get units c.args.hit.now.unit ≡ Some unit = ap (slice_get units) (sym c.from.ensures) ∙ c.get.ensures in
     let named = entry-named units c.from.result c.from-2.result unit e c.requires.lawful c.get.ensures c.get-entry.ensures in
-    accumulator-there units c.args.state.now c.args.hit.now.unit unit e.acc (line e.op).names c.requires.state found named.accumulator (sym c.names.ensures ∙ c.in-Accumulator.is)
+    accumulator-there units c.args.state.now c.args.hit.now.unit unit e.acc (operation_line e.op).names c.requires.state found named.accumulator (sym c.names.ensures ∙ c.in-Accumulator.is)
 
 pub result-requires-in-Field : goal.result-requires-in-Field
 result-requires-in-Field c =

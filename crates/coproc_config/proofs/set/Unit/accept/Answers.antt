@@ -34,6 +34,7 @@ pub returns-then-takes-clause-flags : goal.returns-then-takes-clause-flags
 returns-then-takes-clause-flags c = record {
   entry = c.get-entry.result.now;
   there = c.get-entry.ensures;
+  taken = sym c.if-takes.ensures.takes;
   reads = c.read_flags.ensures ∙ ap (read_flags c.args.params.now) c.reads.ensures;
   writes = c.write_flags.ensures ∙ ap write_flags c.writes.ensures;
 }

@@ -13,7 +13,7 @@ loop-at-preserved c =
     let i = c.loop-at.at in
     let bytes = c.args.bytes.now in
     let pushed : c.push.new.self.items ≡ c.loop-at.placed.items ++ record { address = c.args.load + i; value = get_or bytes i 0 } ∷ [] =
-    c.in_ok-push-in-Some.ensures.items
+    c.in_ok-push.ensures.items
     ∙ ap (λ a. c.loop-at.placed.items ++ record { address = a; value = get_or bytes i 0 } ∷ []) c.in-Some.ensures.1 in
     record {
       rest = ap (λ items. items ++ bytes_from (c.args.load + (i + 1)) (drop (i + 1) bytes)) pushed
@@ -22,12 +22,12 @@ loop-at-preserved c =
       within = rw pushed (All-push (λ b. IsWithin c.args.base c.args.size b.address) _ _ c.loop-at.invariant.within c.in-Some.ensures.0);
     }
 
-pub returns-in-None-clause-exact_fault : goal.returns-in-None-clause-exact_fault
-returns-in-None-clause-exact_fault c =
+pub returns-in_default-clause-exact_fault : goal.returns-in_default-clause-exact_fault
+returns-in_default-clause-exact_fault c =
     let image : Placement = record { base = c.args.base; size = c.args.size; bytes = bytes_from c.args.load c.args.bytes.now } in
     inr (ap (unless_outside image) (some_outside c.args.base c.args.size c.args.load c.loop-at.at c.args.bytes.now (record {
       there = c.loop-at-test.true;
-      outside = c.in-None.ensures;
+      outside = c.in_default.ensures;
       before = c.loop-at.invariant.before;
     })))
 

@@ -1,4 +1,4 @@
--- What a text says, as rules: of white bytes and of tokens, and of the text in which each byte of an image has a line.
+-- White bytes and tokens of a text one by one, and the text in which each byte of an image has a line.
 use Rattle.std.proofs.Common.{◌≡◌, ◌<◌, ◌≤◌, ◌+◌, ◌*◌, ◌/◌, ◌%◌, ◌==◌, ◌&&◌, ℕ, suc, Bool, true, false, not, List, [], ◌∷◌, ◌++◌, length, take, drop, Some, Ok, refl, ap, ◌∙◌, add-one, arith}
 use Rattle.std.proofs.lemmas.List.{take_at, drop_at}
 use Rattle.std.proofs.lemmas.Bool.{cond-false, lt-ltb}
@@ -7,15 +7,23 @@ use Rattle.std.specs.Char.{is_digit, digit_value, digit_char}
 use Rattle.std.specs.List.{list_all, flat_map, AllByRecursion}
 use Rattle.xif_image.specs.declared.text.Item.TheVariants.{Byte}
 use Rattle.xif_image.specs.Image.{IsWithin, bytes_from}
-use Rattle.xif_image.specs.Text.{is_white, length_before, blank_length, ends_token, token_length, Token, tokens_from, item_of, with_first, placed_by, image_or_empty, text_image}
+use Rattle.xif_image.specs.Grammar.{hex_line}
+use Rattle.xif_image.specs.Text.{line_feed, is_white, length_before, blank_length, ends_token, token_length, Token, tokens_from, item_of, with_first, placed_by, image_or_empty, text_image}
 use Rattle.xif_image.proofs.Tokens.{tokens_blank, tokens_token}
 use Rattle.xif_image.proofs.Places.{placed_byte}
 
+abbrev pub slash : ℕ
+slash = 47
+
+-- `@`
+abbrev pub at_sign : ℕ
+at_sign = 64
+
 -- a byte that is neither white nor a slash
 abbrev pub is_ink : ℕ → Bool
-is_ink b = not (is_white b) && not (47 == b)
+is_ink b = not (is_white b) && not (slash == b)
 
-blank-white : (b : ℕ) (bs : List ℕ) → is_white b ≡ true → blank_length (b ∷ bs) ≡ 1
+pub blank-white : (b : ℕ) (bs : List ℕ) → is_white b ≡ true → blank_length (b ∷ bs) ≡ 1
 blank-white b bs h = grind (arith, nat_tests)
 
 blank-ink : (b : ℕ) (bs : List ℕ) → is_ink b ≡ true → blank_length (b ∷ bs) ≡ 0
@@ -58,14 +66,10 @@ tokens-ink at b bs rest h e =
     ∙ ap (λ left. token (b ∷ bs) ∷ tokens_from (at + suc (length bs)) 0 left) (drop_at bs rest (length bs) refl)
     ∙ ap (λ n. token (b ∷ bs) ∷ tokens_from n 0 rest) next
 
--- a byte as two hex digits and a line feed
-abbrev pub hex_line : ℕ → List ℕ
-hex_line value = digit_char (value / 16) ∷ digit_char (value % 16) ∷ 10 ∷ []
-
 digit-ink : (d : ℕ) → d < 16 → is_ink (digit_char d) ≡ true
 digit-ink d h = grind (arith, nat_tests)
 
-digit-no_at : (d : ℕ) → d < 16 → (64 == digit_char d) ≡ false
+digit-no_at : (d : ℕ) → d < 16 → (at_sign == digit_char d) ≡ false
 digit-no_at d h = grind (arith, nat_tests)
 
 digit_value-digit_char : (d : ℕ) → d < 16 → digit_value (digit_char d) ≡ d
@@ -75,7 +79,7 @@ digit-is_digit : (d : ℕ) → d < 16 → is_digit (digit_char d) 16 ≡ true
 digit-is_digit d h = lt-ltb (digit_value (digit_char d)) 16 (rw digit_value-digit_char h)
 
 -- two digits say a byte
-item-digits : (a b : ℕ) → (64 == a) ≡ false → is_digit a 16 ≡ true → is_digit b 16 ≡ true → item_of (a ∷ b ∷ []) ≡ Some (Byte (digit_value a * 16 + digit_value b))
+item-digits : (a b : ℕ) → (at_sign == a) ≡ false → is_digit a 16 ≡ true → is_digit b 16 ≡ true → item_of (a ∷ b ∷ []) ≡ Some (Byte (digit_value a * 16 + digit_value b))
 item-digits a b p q r = grind arith
 
 item-hex : (value : ℕ) → value < 256 → item_of (digit_char (value / 16) ∷ digit_char (value % 16) ∷ []) ≡ Some (Byte value)
@@ -95,7 +99,7 @@ tokens-hex at value rest h =
     let low : value % 16 < 16 = omega arith in
     let token : Token = record { at = at; bytes = digit_char (value / 16) ∷ digit_char (value % 16) ∷ [] } in
     let ink : list_all is_ink (digit_char (value / 16) ∷ digit_char (value % 16) ∷ []) ≡ true = rw (digit-ink (value / 16) high, digit-ink (value % 16) low) refl in
-    tokens-ink at (digit_char (value / 16)) (digit_char (value % 16) ∷ []) (10 ∷ rest) ink refl ∙ ap (λ tokens. token ∷ tokens) (tokens-white (at + 2) 10 rest refl)
+    tokens-ink at (digit_char (value / 16)) (digit_char (value % 16) ∷ []) (line_feed ∷ rest) ink refl ∙ ap (λ tokens. token ∷ tokens) (tokens-white (at + 2) line_feed rest refl)
 
 -- the lines of bytes place them in a row
 placed-hex : (base size address at : ℕ) (values : List ℕ) → AllByRecursion (λ v. v < 256) values → base ≤ address → address + length values ≤ base + size

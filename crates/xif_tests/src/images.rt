@@ -1,10 +1,11 @@
-// Each public call on its happy path, and the texts of an image.
+//! Memories and images: each public call on its happy path, and the places just outside. More texts
+//! of images are in tests/images.txt.
 ghost use Rattle.std.specs.Prelude.{◌≤◌, ◌+◌, ◌^◌};
 
-use super::*;
 use std::alloc::Global;
 use std::process::Abort;
 use std::test::Fail;
+use xif_image::{Image, ImageFault, MemFault, Memory};
 
 const LOADS: [(u32, u8, Result<u32, MemFault>); 12] = [
     (0, 4, Ok(0x77)),
@@ -61,25 +62,37 @@ fn a_memory_is_little_endian_and_refuses_what_lies_outside(rt: HostRuntime) -> R
         stores_are(&rt, &mut memory, &[(4, 4, 0, Ok(()))]);
         loads_are(&rt, &copy, &LOADS);
         assert_eq!(rt; (copy.base(), copy.size()), (base, 8));
+        assert_eq!(rt; copy.bytes(), [0x77, 0, 0, 0, 4, 3, 2, 1].as_slice());
     }
     Ok(())
 }
 
+/// Where four bytes are placed in a memory from address 16 on, the memory's size, and the words at
+/// addresses 16 and 20.
+type Raw = (u32, u32, Result<(Option<u32>, Option<u32>), ImageFault>);
+
+const RAW: [Raw; 5] = [
+    (16, 4, Ok((Some(0x0403_0201), None))),
+    (16, 5, Ok((Some(0x0403_0201), None))),
+    (18, 8, Ok((Some(0x0201_0000), Some(0x0000_0403)))),
+    (15, 8, Err(ImageFault::Outside { at: 0 })),
+    (18, 5, Err(ImageFault::Outside { at: 3 })),
+];
+
 #[test]
-fn raw_bytes_stand_in_a_row(rt: HostRuntime) -> Result<(), Fail> {
-    let cases: [(u32, u32, Result<Option<u32>, ImageFault>); 5] = [
-        (16, 4, Ok(Some(0x0403_0201))),
-        (16, 5, Ok(Some(0x0403_0201))),
-        (18, 6, Ok(Some(0x0201_0000))),
-        (15, 8, Err(ImageFault::Outside { at: 0 })),
-        (18, 5, Err(ImageFault::Outside { at: 3 })),
-    ];
-    for (load, size, want) in cases {
+fn raw_bytes_are_placed_in_a_row(rt: HostRuntime) -> Result<(), Fail> {
+    for (load, size, want) in RAW {
+        assert!(rt; size <= 8);
         let mut memory = Memory::new(rt.alloc(), 16, size)?;
         match Image::raw(rt.alloc(), &[1, 2, 3, 4], load, 16, size) {
             Ok(image) => {
                 memory.place(&image);
-                assert_eq!(rt; Ok(memory.word(16)), want, "{size} bytes");
+                assert_eq!(rt;
+                    Ok((memory.word(16), memory.word(20))),
+                    want,
+                    "{size} bytes"
+                );
+                assert_eq!(rt; memory.word(18), None);
             }
             Err(fault) => assert_eq!(rt; Err(fault), want, "{size} bytes"),
         }
@@ -88,74 +101,54 @@ fn raw_bytes_stand_in_a_row(rt: HostRuntime) -> Result<(), Fail> {
     Ok(())
 }
 
-type Case = (&'static str, Result<&'static [(u32, u8)], ImageFault>);
+/// A text, and the bytes that it places in a memory of 16 bytes.
+type Text = (&'static str, Result<[u8; 16], ImageFault>);
 
-// At base 0 and size 16.
-const TEXTS: [Case; 22] = [
-    ("@0 1", Err(ImageFault::BadToken { at: 3 })),
-    ("0001", Err(ImageFault::BadToken { at: 0 })),
-    ("@10 00", Err(ImageFault::Outside { at: 4 })),
-    ("/* x", Err(ImageFault::BadToken { at: 0 })),
-    ("// a\n", Err(ImageFault::Empty)),
-    ("00/*c*/01", Ok(&[(0, 0), (1, 1)])),
-    ("", Err(ImageFault::Empty)),
-    ("@f", Err(ImageFault::Empty)),
-    ("/*/", Err(ImageFault::BadToken { at: 0 })),
-    ("00/1", Err(ImageFault::BadToken { at: 0 })),
-    ("00@0", Err(ImageFault::BadToken { at: 0 })),
-    ("@ 00", Err(ImageFault::BadToken { at: 0 })),
-    ("@000000001 00", Err(ImageFault::BadToken { at: 0 })),
-    ("0g", Err(ImageFault::BadToken { at: 0 })),
-    ("@é", Err(ImageFault::BadToken { at: 0 })),
-    ("00/* x", Err(ImageFault::BadToken { at: 2 })),
-    ("@10 zz", Err(ImageFault::BadToken { at: 4 })),
-    ("@10 00 zz", Err(ImageFault::Outside { at: 4 })),
-    ("zz @10 00", Err(ImageFault::BadToken { at: 0 })),
+// At base 0.
+const TEXTS: [Text; 3] = [
     (
         "aB\x0b0F\x0c// 00 /*\r\n@00000003\t5c/**/",
-        Ok(&[(0, 0xab), (1, 0x0f), (3, 0x5c)]),
+        Ok([0xab, 0x0f, 0, 0x5c, 0, 0, 0, 0, 0, 0, 0, 0, 0, 0, 0, 0]),
     ),
-    ("00 // 01", Ok(&[(0, 0)])),
-    ("00 01 @0 ff", Ok(&[(0, 0), (1, 1), (0, 0xff)])),
+    (
+        "11 22 @0 33 @3 44",
+        Ok([0x33, 0x22, 0, 0x44, 0, 0, 0, 0, 0, 0, 0, 0, 0, 0, 0, 0]),
+    ),
+    ("@é", Err(ImageFault::BadToken { at: 0 })),
 ];
 
-// At base 0xfffffff0 and size 16.
-const HIGH_TEXTS: [Case; 3] = [
-    ("@fffffffF 01", Ok(&[(0xffff_ffff, 1)])),
+// At base 0xfffffff0.
+const HIGH_TEXTS: [Text; 3] = [
+    (
+        "@fffffffF 01",
+        Ok([0, 0, 0, 0, 0, 0, 0, 0, 0, 0, 0, 0, 0, 0, 0, 1]),
+    ),
     ("@fffffffF 01 02", Err(ImageFault::Outside { at: 13 })),
     ("@0 01", Err(ImageFault::Outside { at: 3 })),
 ];
 
-fn texts_say(rt: &impl Abort, alloc: Global, base: u32, cases: &[Case])
+fn texts_are(rt: &impl Abort, alloc: Global, base: u32, cases: &[Text]) -> Result<(), Fail>
     requires { base + 16 ≤ 2 ^ 32 }
 {
     for (text, want) in cases {
+        let mut memory = Memory::new(alloc, base, 16)?;
         match Image::text(alloc, text.as_bytes(), base, 16) {
-            Ok(image) => places_are(rt, text, image.bytes(), want.unwrap_or(&[])),
+            Ok(image) => {
+                memory.place(&image);
+                assert_eq!(rt;
+                    memory.bytes(),
+                    want.unwrap_or([0xff; 16]).as_slice(),
+                    "{text}"
+                );
+            }
             Err(fault) => assert_eq!(rt; Err(fault), *want, "{text}"),
         }
     }
-}
-
-fn places_are(rt: &impl Abort, text: &str, bytes: &[ByteAt], places: &[(u32, u8)]) {
-    assert_eq!(rt; bytes.len(), places.len(), "{text}");
-    for (byte, place) in bytes.iter().zip(places) {
-        assert_eq!(rt; (byte.address, byte.value), *place, "{text}");
-    }
-}
-
-#[test]
-fn a_text_says_bytes_and_addresses(rt: HostRuntime) {
-    texts_say(&rt, rt.alloc(), 0, &TEXTS);
-    texts_say(&rt, rt.alloc(), 0xffff_fff0, &HIGH_TEXTS);
-}
-
-#[test]
-fn a_later_byte_replaces_an_earlier_one(rt: HostRuntime) -> Result<(), Fail> {
-    let mut memory = Memory::new(rt.alloc(), 0, 4)?;
-    if let Ok(image) = Image::text(rt.alloc(), b"11 22 @0 33 @3 44", 0, 4) {
-        memory.place(&image);
-    }
-    assert_eq!(rt; memory.word(0), Some(0x4400_2233));
     Ok(())
+}
+
+#[test]
+fn a_text_places_bytes_at_addresses(rt: HostRuntime) -> Result<(), Fail> {
+    texts_are(&rt, rt.alloc(), 0, &TEXTS)?;
+    texts_are(&rt, rt.alloc(), 0xffff_fff0, &HIGH_TEXTS)
 }
