@@ -31,7 +31,7 @@ pub record OpenAt (p : Progress) (text : List ℕ) : Type 0 where
   pub run : p.run ≡ rest [] text
 
 -- the reader read this text, and these items were taken from it
-pub record Stands (p : Progress) (text : List ℕ) (taken : List Item) : Type 0 where
+pub record Represents (p : Progress) (text : List ℕ) (taken : List Item) : Type 0 where
   pub alive : p.has_failed ≡ false
   pub read : with_taken taken p.read ≡ read_so_far text
   -- what follows a fault isn't looked at
@@ -44,8 +44,8 @@ pub record IsFaulty (p : Progress) (f : VcdFault) : Type 0 where
 
 -- a reader after an answer to feed, which is about the complete tokens of the text so far
 abbrev pub Fed : Progress → List ℕ → List Item → Result Unit FeedFail → Type 0
-Fed new text taken (Ok u) = Stands new text taken × IsOk (read_so_far text).state
-Fed new text taken (Err (Vcd f)) = Stands new text taken × ((read_so_far text).state ≡ Err f)
+Fed new text taken (Ok u) = Represents new text taken × IsOk (read_so_far text).state
+Fed new text taken (Err (Vcd f)) = Represents new text taken × ((read_so_far text).state ≡ Err f)
 Fed new text taken (Err NoMemory) = new.has_failed ≡ true
 
 -- a reader after an answer to close, which is about the whole text

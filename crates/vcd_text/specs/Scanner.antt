@@ -19,7 +19,7 @@ abbrev pub read_by : Scanner → List Item → Read
 read_by s taken = record { items = taken ++ s.items.items; variables = declared_by s.state; state = outcome s.state s.fault }
 
 -- the scanner took in this text, and these items were taken from it
-pub record Follows (s : Scanner) (text : List ℕ) (taken : List Item) : Type 0 where
+pub record Represents (s : Scanner) (text : List ℕ) (taken : List Item) : Type 0 where
   pub read : read_by s taken ≡ read_so_far text
   pub size : s.fault ≡ None → s.size ≡ length text
   pub run : s.fault ≡ None → s.run.items ≡ rest [] text

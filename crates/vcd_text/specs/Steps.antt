@@ -13,7 +13,7 @@ pub record SameDeclared (old new : State) : Type 0 where
   pub is_declared : new.is_declared ≡ old.is_declared
 
 -- the state after an answer, which is what the definition gives but for want of memory
-abbrev pub Gives : State → State → Result (Option Item) Stop → Step → Type 0
-Gives old new (Ok item) given = (given ≡ Ok (new, item)) × (length new.codes ≤ length old.codes + 1)
-Gives old new (Err NoMemory) given = ⊤
-Gives old new (Err (Fault f)) given = (given ≡ Err f) × SameDeclared old new
+abbrev pub StepsTo : State → State → Result (Option Item) Stop → Step → Type 0
+StepsTo old new (Ok item) given = (given ≡ Ok (new, item)) × (length new.codes ≤ length old.codes + 1)
+StepsTo old new (Err NoMemory) given = ⊤
+StepsTo old new (Err (Fault f)) given = (given ≡ Err f) × SameDeclared old new

@@ -22,30 +22,30 @@ use Rattle.vcd_text.specs.declared.item.Item.TheVariants.{Time, Change}
 abbrev pub numeral : ℕ → ℕ → List ℕ
 numeral base n = cond (n == 0) (48 ∷ []) (map (λ d. 48 + d) (digits_of base n))
 
--- a word with a space behind it, and the last word of a line
-abbrev pub word : List ℕ → List ℕ
-word w = w ++ 32 ∷ []
+-- a word and the space behind it, and the last word of a line and the line end behind it
+abbrev pub with_space : List ℕ → List ℕ
+with_space w = w ++ 32 ∷ []
 
-abbrev pub last : List ℕ → List ℕ
-last w = w ++ 10 ∷ []
+abbrev pub with_line_end : List ℕ → List ℕ
+with_line_end w = w ++ 10 ∷ []
 
 -- `$var wire WIDTH CODE NAME $end`
 abbrev pub var_line : Params → Signal → List ℕ
 var_line p s =
-    word (codes "$var") ++ (word (codes "wire") ++ (word (numeral 10 (width_of s p)) ++ (word (code_of s)
-    ++ (word (name_of s) ++ last (codes "$end")))))
+    with_space (codes "$var") ++ (with_space (codes "wire") ++ (with_space (numeral 10 (width_of s p)) ++ (with_space (code_of s)
+    ++ (with_space (name_of s) ++ with_line_end (codes "$end")))))
 
 abbrev pub time_line : ℕ → List ℕ
-time_line t = last (35 ∷ numeral 10 t)
+time_line t = with_line_end (35 ∷ numeral 10 t)
 
 -- a digit and the code for one bit, else `b`, the digits, and the code
 abbrev pub change_line : ℕ → List ℕ → ℕ → List ℕ
 change_line width code value =
-    cond (width == 1) (last ((48 + value) ∷ code)) (word (98 ∷ numeral 2 value) ++ last code)
+    cond (width == 1) (with_line_end ((48 + value) ∷ code)) (with_space (98 ∷ numeral 2 value) ++ with_line_end code)
 
 -- the clock, whose code is `!`
 abbrev pub clock_line : ℕ → List ℕ
-clock_line value = last ((48 + value) ∷ 33 ∷ [])
+clock_line value = with_line_end ((48 + value) ∷ 33 ∷ [])
 
 -- ---- the text
 

@@ -5,7 +5,7 @@ ghost use Rattle.vcd_text.specs.declared.fault.VcdFault.{VcdFault};
 ghost use Rattle.vcd_text.specs.declared.item.Item.{Item};
 ghost use Rattle.vcd_text.specs.declared.declaration.Variable.{Variable};
 ghost use Rattle.vcd_text.specs.Sizes.{AreConsistent, FitsDeclared};
-ghost use Rattle.vcd_text.specs.Reader.{Stands, Fed, Closed, IsFaulty, after_take};
+ghost use Rattle.vcd_text.specs.Reader.{Represents, Fed, Closed, IsFaulty, after_take};
 
 use crate::scanner::Scanner;
 use crate::{Declarations, FeedFail, Item};
@@ -35,7 +35,7 @@ impl Model for Reader {
 
 impl Reader {
     pub fn new(alloc: Global) -> Reader
-        ensures stands { Stands result [] [] }
+        ensures represents { Represents result [] [] }
         ensures size { result.size ≡ 0 }
         ensures not_closed { result.is_closed ≡ false }
     {
@@ -51,7 +51,7 @@ impl Reader {
     pub fn feed(&mut self, piece: &[u8]) -> Result<(), FeedFail>
         requires not_closed { self.old.is_closed ≡ false }
         requires room { self.old.has_failed ≡ false → self.old.size + length piece.now < 2 ^ 32 }
-        ensures fed { (text : List ℕ) (taken : List Item) → Stands self.old text taken → Fed self.new (text ++ piece.now) taken result }
+        ensures fed { (text : List ℕ) (taken : List Item) → Represents self.old text taken → Fed self.new (text ++ piece.now) taken result }
         ensures fault { (f : VcdFault) → IsFaulty self.old f → (result ≡ Err (FeedFail.Vcd f)) × (self.new ≡ self.old) }
         ensures failed { self.old.has_failed ≡ true → (result ≡ Err FeedFail.NoMemory) × (self.new ≡ self.old) }
         ensures declared { (vs : List Variable) → self.old.read.variables ≡ Some vs → self.new.has_failed ≡ false → self.new.read.variables ≡ Some vs }
@@ -81,14 +81,14 @@ impl Reader {
     /// Says that the text has ended.
     pub fn close(&mut self) -> Result<(), FeedFail>
         requires not_closed { self.old.is_closed ≡ false }
-        ensures closed { (text : List ℕ) (taken : List Item) → Stands self.old text taken → Closed self.new text taken result }
+        ensures closed { (text : List ℕ) (taken : List Item) → Represents self.old text taken → Closed self.new text taken result }
         ensures fault { (f : VcdFault) → IsFaulty self.old f → (result ≡ Err (FeedFail.Vcd f)) × (self.new ≡ self.old) }
         ensures failed { self.old.has_failed ≡ true → (result ≡ Err FeedFail.NoMemory) × (self.new ≡ self.old) }
         ensures declared { (vs : List Variable) → self.old.read.variables ≡ Some vs → self.new.has_failed ≡ false → self.new.read.variables ≡ Some vs }
         ensures ended { OnOk result (self.new.is_closed ≡ true) }
         ensures alive { OnOk result (self.new.has_failed ≡ false) }
         ensures not_closed { OnErr result (self.new.is_closed ≡ false) }
-        ensures told { (f : VcdFault) → result ≡ Err (FeedFail.Vcd f) → IsFaulty self.new f }
+        ensures faulty { (f : VcdFault) → result ≡ Err (FeedFail.Vcd f) → IsFaulty self.new f }
         ensures size { self.new.size ≡ self.old.size }
     {
         if self.has_failed {
@@ -125,8 +125,8 @@ impl Reader {
     pub fn take(&mut self) -> Option<Item>
         ensures item { result ≡ cond self.old.has_failed None (slice_get self.old.read.items 0) }
         ensures rest { self.new ≡ after_take self.old }
-        ensures stands { (text : List ℕ) (taken : List Item) → Stands self.old text taken →
-            MatchOption result (Stands self.new text taken) (λ item. Stands self.new text (taken ++ item ∷ [])) }
+        ensures represents { (text : List ℕ) (taken : List Item) → Represents self.old text taken →
+            MatchOption result (Represents self.new text taken) (λ item. Represents self.new text (taken ++ item ∷ [])) }
         ensures fits { (vs : List Variable) → self.old.read.variables ≡ Some vs → IfSome result (FitsDeclared vs) }
     {
         if self.has_failed {

@@ -4,7 +4,7 @@ ghost use Rattle.std.specs.List.{fold, list_all};
 ghost use Rattle.vcd_text.specs.Words.{is_ink};
 ghost use Rattle.vcd_text.specs.declared.item.Item.{Item};
 ghost use Rattle.vcd_text.specs.Reading.{go, fault_at_end};
-ghost use Rattle.vcd_text.specs.Scanner.{Follows, Steps, TakesToken, HasRoom, read_by, outcome};
+ghost use Rattle.vcd_text.specs.Scanner.{Represents, Steps, TakesToken, HasRoom, read_by, outcome};
 ghost use Rattle.vcd_text.specs.Sound.{IsSoundRead, Onward};
 ghost use Rattle.vcd_text.specs.Tokens.{token_before};
 
@@ -35,7 +35,7 @@ pub struct Scanner {
 
 impl Scanner {
     pub fn new(alloc: Global) -> Scanner
-        ensures follows { Follows result [] [] }
+        ensures follows { Represents result [] [] }
         ensures size { result.size ≡ 0 }
         ensures codes { HasRoom result }
         ensures sound { IsSoundRead (read_by result []) }
@@ -64,7 +64,7 @@ impl Scanner {
         ensures size { self.new.size ≤ self.old.size + length piece.now }
         ensures codes { OnOk result (HasRoom self.new) }
         ensures follows { OnOk result ((text : List ℕ) (taken : List Item) →
-            Follows self.old text taken → Follows self.new (text ++ piece.now) taken) }
+            Represents self.old text taken → Represents self.new (text ++ piece.now) taken) }
         ensures onward { OnOk result (Onward (read_by self.old []) (read_by self.new [])) }
     {
         let mut rest = piece;
@@ -92,7 +92,7 @@ impl Scanner {
         ensures size { self.new.size ≤ self.old.size + length word.now + 1 }
         ensures codes { OnOk result (HasRoom self.new) }
         ensures follows { OnOk result ((text : List ℕ) (taken : List Item) →
-            Follows self.old text taken → Follows self.new (text ++ word.now ++ next ∷ []) taken) }
+            Represents self.old text taken → Represents self.new (text ++ word.now ++ next ∷ []) taken) }
         ensures onward { OnOk result (Onward (read_by self.old []) (read_by self.new [])) }
     {
         match self.fault {
@@ -116,7 +116,7 @@ impl Scanner {
         ensures size { self.new.size ≤ self.old.size + length word.now }
         ensures codes { OnOk result (HasRoom self.new) }
         ensures follows { OnOk result ((text : List ℕ) (taken : List Item) →
-            Follows self.old text taken → Follows self.new (text ++ word.now) taken) }
+            Represents self.old text taken → Represents self.new (text ++ word.now) taken) }
         ensures onward { OnOk result (Onward (read_by self.old []) (read_by self.new [])) }
     {
         match self.fault {
@@ -150,7 +150,7 @@ impl Scanner {
         ensures size { self.new.size ≤ self.old.size + 1 }
         ensures codes { OnOk result (HasRoom self.new) }
         ensures follows { OnOk result ((text : List ℕ) (taken : List Item) →
-            Follows self.old text taken → Follows self.new (text ++ byte ∷ []) taken) }
+            Represents self.old text taken → Represents self.new (text ++ byte ∷ []) taken) }
         ensures onward { OnOk result (Onward (read_by self.old []) (read_by self.new [])) }
     {
         match self.fault {
