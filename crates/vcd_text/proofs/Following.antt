@@ -30,6 +30,11 @@ read_so_far-push text b =
     ∙ ap (fold go (read_so_far text)) (complete-push (rest [] text) (length text) b (is_white b) refl)
     ∙ fold-cond (read_so_far text) (is_white b) (token_before (length text) (rest [] text))
 
+-- where there is no fault there is none
+pub none-left : (o : Option VcdFault) → ((f : VcdFault) → o ≡ Some f → ⊥) → o ≡ None
+none-left None h = refl
+none-left (Some f) h = absurd (h f refl)
+
 pub follows-push : (old new : Scanner) (b : ℕ) (text : List ℕ) (taken : List Item) → old.fault ≡ None → Steps old new b → Represents old text taken → Represents new (text ++ b ∷ []) taken
 follows-push old new b text taken none s h =
     let size : old.size ≡ length text = h.size none in

@@ -1,4 +1,5 @@
--- What holds of every state, and of all that was read.
+-- Internal: what the contracts of private functions cite; nothing here has to be believed. What holds of every state,
+-- and of all that was read.
 use Rattle.std.specs.Prelude.{◌≡◌, ◌≤◌, ◌<◌, ◌^◌, ℕ, Bool, true, false, List, [], length, slice_get, Option, Some, None, Ok, All}
 use Rattle.std.specs.Option.{option_map}
 use Rattle.vcd_text.specs.declared.declaration.Variable.{Variable}

@@ -1,4 +1,4 @@
-// What the blocks of the declarations do.
+//! What the blocks of the declarations do (IEEE 1364-2005, 18.2.3).
 ghost use Rattle.std.specs.Prelude.{◌≡◌, ◌<◌, ◌≤◌, ◌^◌, None, length};
 ghost use Rattle.vcd_text.specs.Codes.{code_from};
 ghost use Rattle.vcd_text.specs.Grammar.{var_at, var_sized, var, scope, upscope, block, opened, declaration};
@@ -14,19 +14,22 @@ use crate::{Item, Variable, VcdCause};
 use std::alloc::Global;
 use xif_base::{Name, NoMemory};
 
+/// The greatest size of a variable in bits, which is a limit of this reader.
 const MAX_SIZE: u64 = 1_048_576;
 
+/// How many scopes may be open, which is a limit of this reader.
 const MAX_SCOPES: usize = 64;
 
 impl State {
-    /// Takes the first token of a block, or what isn't one.
+    /// Takes a token among the declarations, outside a block.
     pub fn declaration(
         &mut self,
         alloc: Global,
         at: u64,
         token: &[u8],
     ) -> Result<Option<Item>, Stop>
-        ensures { StepsTo self.old self.new result (declaration self.old (record { at = at; text = token.now })) }
+        ensures { StepsTo self.old self.new result
+            (declaration self.old (record { at = at; text = token.now })) }
     {
         if !is_command(token) {
             return Stop::fault(VcdCause::BadToken, at);
@@ -45,7 +48,7 @@ impl State {
         }
     }
 
-    /// Takes a block whose end came.
+    /// Takes a block, once its `$end` was read. A fault is at its first token.
     pub fn block(
         &mut self,
         alloc: Global,
@@ -116,7 +119,8 @@ impl State {
         size: u64,
     ) -> Result<Option<Item>, Stop>
         requires room { length self.old.codes < 2 ^ 32 }
-        ensures { StepsTo self.old self.new result (var_sized self.old at code.now name.now (Some size)) }
+        ensures { StepsTo self.old self.new result
+            (var_sized self.old at code.now name.now (Some size)) }
     {
         if size > MAX_SIZE || !is_code(code) {
             return Stop::fault(VcdCause::BadVar, at);
@@ -136,7 +140,8 @@ impl State {
         name: &str,
     ) -> Result<Option<Item>, Stop>
         requires room { length self.old.codes < 2 ^ 32 }
-        ensures { StepsTo self.old self.new result (var_at self.old at code.now size name.now (code_from 0 code.now self.old.codes)) }
+        ensures { StepsTo self.old self.new result
+            (var_at self.old at code.now size name.now (code_from 0 code.now self.old.codes)) }
     {
         let name = self.scopes.full_name(alloc, name)?;
         match self.codes.find(code) {

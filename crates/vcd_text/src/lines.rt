@@ -1,4 +1,4 @@
-// The lines of a text.
+//! The lines of a text that is written.
 ghost use Rattle.std.specs.Prelude.{◌≡◌, ◌<◌, ◌≤◌, ◌+◌, ◌^◌, ◌++◌, ◌∷◌, [], map, OnOk};
 ghost use Rattle.std.specs.Int.Digits.{digits_of};
 ghost use Rattle.xif_base.specs.Params.{IsInRange};
@@ -7,7 +7,7 @@ ghost use Rattle.vcd_text.specs.Written.{numeral, var_line, time_line, clock_lin
 use xif_base::{NoMemory, Params};
 use xif_signals::Signal;
 
-/// The declaration of the variable of a signal.
+/// The declaration of the variable of a signal (18.2.3, `$var`).
 pub(crate) fn put_variable(
     text: &mut Vec<u8>,
     params: &Params,
@@ -26,6 +26,7 @@ pub(crate) fn put_variable(
     Ok(())
 }
 
+/// A simulation time.
 pub(crate) fn put_time(text: &mut Vec<u8>, time: u64) -> Result<(), NoMemory>
     ensures { OnOk result (text.new.items ≡ text.old.items ++ time_line time) }
 {
@@ -35,7 +36,7 @@ pub(crate) fn put_time(text: &mut Vec<u8>, time: u64) -> Result<(), NoMemory>
     Ok(())
 }
 
-/// A change of the variable of a code to a value of so many bits.
+/// A change of the variable of a code to a value, which has this width in bits.
 pub(crate) fn put_change(
     text: &mut Vec<u8>,
     width: u8,

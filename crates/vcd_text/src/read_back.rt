@@ -1,4 +1,4 @@
-// The law that the text of buses reads back.
+//! The law that the text of buses reads back.
 ghost use Rattle.std.specs.Prelude.{◌<◌, ◌^◌, List, length, All};
 ghost use Rattle.xif_base.specs.declared.params.Params.{Params};
 ghost use Rattle.xif_base.specs.Params.{IsInRange};

@@ -1,4 +1,4 @@
-// The scopes that are open.
+//! The scopes that are open.
 ghost use Rattle.std.specs.Prelude.{◌≡◌, ◌++◌, ◌-◌, [], ◌∷◌, length, take, IfOk, OnOk, OnErr};
 ghost use Rattle.vcd_text.specs.Grammar.{full_name};
 

@@ -1,4 +1,4 @@
-// What a token does.
+//! What a token does.
 ghost use Rattle.std.specs.Prelude.{◌≡◌, ◌<◌, ◌^◌, Some, length};
 ghost use Rattle.vcd_text.specs.Grammar.{change, time_of, scalar, vector, command, body, step};
 ghost use Rattle.vcd_text.specs.Steps.{StepsTo};
@@ -21,7 +21,8 @@ impl State {
     /// Takes a token, which begins at an offset.
     pub fn step(&mut self, alloc: Global, at: u64, token: &[u8]) -> Result<Option<Item>, Stop>
         requires room { length self.old.codes < 2 ^ 32 }
-        ensures { StepsTo self.old self.new result (step self.old (record { at = at; text = token.now })) }
+        ensures { StepsTo self.old self.new result
+            (step self.old (record { at = at; text = token.now })) }
     {
         match mem::replace(&mut self.part, Part::Nothing) {
             Part::Nothing => {
@@ -135,7 +136,7 @@ impl State {
         self.change(at, digits, at, code)
     }
 
-    /// StepsTo a change of a code. The code is tested before the width.
+    /// Returns a change of a code. The code is tested before the width.
     fn change(
         &self,
         at: u64,
@@ -143,7 +144,8 @@ impl State {
         code_at: u64,
         code: &[u8],
     ) -> Result<Option<Item>, Stop>
-        ensures { StepsTo self.now self.now result (change self.now at digits code_at code.now) }
+        ensures { StepsTo self.now self.now result
+            (change self.now at digits code_at code.now) }
     {
         let Some((code, size)) = self.codes.find(code) else {
             return Stop::fault(VcdCause::UnknownCode, code_at);
