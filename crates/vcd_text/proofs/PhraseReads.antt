@@ -1,31 +1,22 @@
 -- The tokens of a whole phrase are read as the grammar says.
-use Rattle.std.proofs.Common.{◌≡◌, ◌⊎◌, ℕ, ◌-◌, ◌==◌, ◌&&◌, ◌||◌, Bool, true, false, not, cond, nat_le, nat_lt, List, [], ◌∷◌, ◌++◌, map, length, take, Option, Some, None, Result, Ok, Err, inl, inr, refl, sym, ap, ◌∙◌, subst, arith}
+use Rattle.std.proofs.Common.{◌≡◌, ◌⊎◌, ℕ, ◌&&◌, ◌||◌, Bool, true, false, not, cond, List, [], ◌∷◌, ◌++◌, take, Some, inl, inr, refl, sym, ap, ◌∙◌, subst}
 use Rattle.std.specs.Prelude.{unwrap_or, codes}
 use Rattle.std.specs.List.{fold}
-use Rattle.std.specs.Option.{option_to_list, option_map}
-use Rattle.std.specs.Str.{bytes_eq, is_utf8}
-use Rattle.std.proofs.lemmas.Bool.{eqb-true}
-use Rattle.std.proofs.lemmas.List.{append-nil}
-use Rattle.std.proofs.lemmas.Slice.Eq.{bytes_eq-Decides}
 use Rattle.xif_base.specs.Checks.{first_fault}
-use Rattle.vcd_text.specs.declared.digit.Digit.{Digit}
-use Rattle.vcd_text.specs.declared.fault.VcdCause.{VcdCause}
-use Rattle.vcd_text.specs.declared.fault.VcdCause.TheVariants.{BadToken, OpenBlock, BadVar, SizeDiffers, UnknownCode, TooWide, BadTime, TimeBack}
+use Rattle.vcd_text.specs.declared.fault.VcdCause.TheVariants.{BadToken, OpenBlock}
 use Rattle.vcd_text.specs.declared.fault.VcdFault.{VcdFault}
 use Rattle.vcd_text.specs.declared.item.Item.{Item}
-use Rattle.vcd_text.specs.declared.item.Item.TheVariants.{Time, Change}
 use Rattle.vcd_text.specs.declared.keyword.Keyword.{Keyword}
 use Rattle.vcd_text.specs.declared.keyword.Keyword.TheVariants.{Scope, Upscope, Var, EndDefinitions, End, Dump, Other}
 use Rattle.vcd_text.specs.declared.state.Part.{Part}
-use Rattle.vcd_text.specs.declared.state.Part.TheVariants.{Nothing, Block, Skipped, Vector, Passed}
+use Rattle.vcd_text.specs.declared.state.Part.TheVariants.{Block, Skipped, Vector, Passed}
 use Rattle.vcd_text.specs.declared.state.State.{State}
-use Rattle.vcd_text.specs.Words.{number, digit, digits, with_digit, keyword, is_command, is_end, is_code, is_one_of, number_sign, dollar_sign}
+use Rattle.vcd_text.specs.Words.{number, digit, digits, keyword, is_command, is_end, is_one_of, number_sign}
 use Rattle.vcd_text.specs.Tokens.{Token}
-use Rattle.vcd_text.specs.Codes.{Code, code_from}
-use Rattle.vcd_text.specs.Grammar.{Step, fault, goes, with_part, change_of, change, time_of, scalar, vector, command, body, var_at, var_sized, var, scope, upscope, block, opened, declaration, kept, in_part, step}
-use Rattle.vcd_text.specs.Reading.{Read, go, moved, fault_in}
-use Rattle.vcd_text.specs.Phrases.{Phrase, ScopeBlock, UpscopeBlock, VarBlock, EndDefinitionsBlock, OtherBlock, SimulationTime, ScalarChange, VectorChange, PassedChange, SimulationKeyword, StrayToken, Context, HasForm, PlacedPhrase, IsPhrase, IsUnfinished, tokens_of, block_tokens, is_other, is_declaring, is_simulation_keyword, has_digits, has_digit_and_code, opens_block, opens_change, is_single, is_stray, are_block_words, scope_demands, has_size, var_demands, var_block_demands, change_demands, time_demands, value_of, demands, with_variable, after, change_said, says, fault_place}
-use Rattle.vcd_text.proofs.Texts.{fold-append}
+use Rattle.vcd_text.specs.Codes.{code_from}
+use Rattle.vcd_text.specs.Grammar.{fault, goes, with_part, change, block, opened, declaration, in_part, step}
+use Rattle.vcd_text.specs.Reading.{go, moved, fault_in}
+use Rattle.vcd_text.specs.Phrases.{Phrase, ScopeBlock, UpscopeBlock, VarBlock, EndDefinitionsBlock, OtherBlock, SimulationTime, ScalarChange, VectorChange, PassedChange, SimulationKeyword, StrayToken, Context, HasForm, PlacedPhrase, IsPhrase, IsUnfinished, tokens_of, block_tokens, is_other, is_declaring, has_digits, opens_block, opens_change, is_stray, are_block_words, value_of, demands}
 use Rattle.vcd_text.proofs.Says.{said}
 use Rattle.vcd_text.proofs.PhraseSteps.{state_of, texts, outcome, both, negated, kept_all, quiet, moved-open, step-declares, step-body, in_block, in_skipped, block-read, skip-read, scope-is, upscope-is, var-is, dollar-command, other-step, stands-command, time-is, change-is, scalar-body, scalar-is, vector-opens, vector-body, passed-body, stray-step}
 
@@ -77,7 +68,7 @@ block-phrase : (items : List Item) (c : Context) (p : Phrase) (ts : List Token) 
 block-phrase items c p ts first k words form e o h =
     let s = split_block ts first words e in
     let opens : step (state_of c) s.0 ≡ goes (with_part (state_of c) (Block s.0.at k [])) =
-        step-declares c s.0 form.0 ∙ ap (λ w. declaration (state_of c) (record { at = s.0.at; text = w })) s.4 ∙ o (state_of c) s.0.at in
+    step-declares c s.0 form.0 ∙ ap (λ w. declaration (state_of c) (record { at = s.0.at; text = w })) s.4 ∙ o (state_of c) s.0.at in
     subst (IsReadSo items c p) (sym s.3)
     (block-read items (state_of c) s.0 s.2 s.1 k opens refl (ap are_block_words s.5 ∙ form.1) (ap is_end s.6)
     ∙ ap (λ ws. moved (said (state_of c) items) (block (state_of c) s.0.at k (take 4 ws))) s.5
@@ -106,7 +97,7 @@ other-phrase : (items : List Item) (c : Context) (ts : List Token) (first : List
 other-phrase items c ts first words form e =
     let s = split_block ts first words e in
     let opens : step (state_of c) s.0 ≡ goes (with_part (state_of c) (Skipped s.0.at)) =
-        other-step c s.0 c.is_declared refl (ap is_command s.4 ∙ form.0) (ap (λ w. is_other c.is_declared (keyword w)) s.4 ∙ form.1) in
+    other-step c s.0 c.is_declared refl (ap is_command s.4 ∙ form.0) (ap (λ w. is_other c.is_declared (keyword w)) s.4 ∙ form.1) in
     subst (IsReadSo items c (OtherBlock first words)) (sym s.3)
     (skip-read items (state_of c) s.0 s.2 s.1 opens (ap are_block_words s.5 ∙ form.2) (ap is_end s.6))
 
@@ -180,16 +171,16 @@ block-open items c t words o h =
         fault = λ d end. refl;
       }
       | inr declares ↦
-        let d = both (not c.is_declared) (is_declaring k) declares in
-        let opens : step s t ≡ goes (with_part s (Block t.at k [])) =
-            step-declares c t (negated c.is_declared d.0)
-            ∙ ap (λ b. cond b (opened s t.at k) (fault BadToken t.at)) e.0
-            ∙ declaring-opened s t.at k d.1 in
-        record {
-          part = Block t.at k (kept_all [] (texts words));
-          read = ap (λ r. fold go r words) (quiet items s (with_part s (Block t.at k [])) t opens) ∙ in_block items s t.at k [] words h;
-          fault = λ d end. refl;
-        }
+          let d = both (not c.is_declared) (is_declaring k) declares in
+          let opens : step s t ≡ goes (with_part s (Block t.at k [])) =
+          step-declares c t (negated c.is_declared d.0)
+          ∙ ap (λ b. cond b (opened s t.at k) (fault BadToken t.at)) e.0
+          ∙ declaring-opened s t.at k d.1 in
+          record {
+            part = Block t.at k (kept_all [] (texts words));
+            read = ap (λ r. fold go r words) (quiet items s (with_part s (Block t.at k [])) t opens) ∙ in_block items s t.at k [] words h;
+            fault = λ d end. refl;
+          }
     ]
 
 change-open_by : (items : List Item) (c : Context) (t : Token) (w : List ℕ) → c.is_declared ≡ true → t.text ≡ w → opens_change w ≡ true

@@ -1,21 +1,18 @@
 -- Rows of phrases are read as they say, and their faults are the text's.
-use Rattle.std.proofs.Common.{◌≡◌, ◌⊎◌, ℕ, Bool, true, false, cond, List, [], ◌∷◌, ◌++◌, length, Option, Some, None, Result, Ok, Err, inl, inr, refl, sym, ap, ◌∙◌, subst, append_assoc}
+use Rattle.std.proofs.Common.{◌≡◌, ℕ, cond, List, [], ◌∷◌, ◌++◌, length, Some, None, Ok, Err, inl, inr, refl, sym, ap, ◌∙◌, append_assoc}
 use Rattle.std.specs.List.{fold}
 use Rattle.std.specs.Option.{option_to_list}
 use Rattle.std.proofs.lemmas.List.{append-nil}
-use Rattle.xif_base.specs.Checks.{first_fault}
 use Rattle.vcd_text.specs.declared.fault.VcdCause.TheVariants.{OpenBlock, NoDefinitionsEnd}
 use Rattle.vcd_text.specs.declared.fault.VcdFault.{VcdFault}
 use Rattle.vcd_text.specs.declared.item.Item.{Item}
-use Rattle.vcd_text.specs.declared.state.State.{State}
 use Rattle.vcd_text.specs.Tokens.{Token}
-use Rattle.vcd_text.specs.Grammar.{with_part}
 use Rattle.vcd_text.specs.Reading.{Read, Reading, go, moved, from, start, reading_of, reading_by, ends}
-use Rattle.vcd_text.specs.Phrases.{Context, PlacedPhrase, IsRowOf, FailsBehind, IsIllFormed, IsUnfinished, IsUndeclared, AreWellFormed, first_context, demands, after, says, after_all, all_say, tokens_in, tokens_of_text}
+use Rattle.vcd_text.specs.Phrases.{Context, PlacedPhrase, IsRowOf, FailsBehind, IsIllFormed, AreWellFormed, first_context, after, says, after_all, all_say, tokens_in, tokens_of_text}
 use Rattle.vcd_text.proofs.Texts.{fold-append, stuck}
 use Rattle.vcd_text.proofs.Says.{said}
 use Rattle.vcd_text.proofs.PhraseSteps.{state_of, outcome}
-use Rattle.vcd_text.proofs.PhraseReads.{phrase-read, LeavesOpen, unfinished-open}
+use Rattle.vcd_text.proofs.PhraseReads.{phrase-read, unfinished-open}
 
 row-read : (items : List Item) (c : Context) (row : List PlacedPhrase) → AreWellFormed c row
     → fold go (said (state_of c) items) (tokens_in row) ≡ said (state_of (after_all c row)) (items ++ all_say c row)
@@ -34,7 +31,7 @@ row-reading text row r h =
     let last = after_all first_context row in
     let items = all_say first_context row in
     let whole : fold go (from start) (tokens_of_text text) ≡ said (state_of last) items =
-        ap (fold go (from start)) h.tokens ∙ row-read [] first_context row h.formed in
+    ap (fold go (from start)) h.tokens ∙ row-read [] first_context row h.formed in
     ap (λ (r : Read). ends r.items r.state (length text)) whole
     ∙ ap (λ b. reading_by last.variables items (cond b None (Some (record { at = length text; cause = NoDefinitionsEnd })))) h.declared
     ∙ ap Ok (sym h.said)
@@ -67,14 +64,14 @@ row-fault text row f h =
       | inl ill ↦ ap (λ (r : Read). ends r.items r.state end) (so_far ∙ ill-formed items last h.rest f ill)
       | inr other ↦ elim other as (λ _. reading_of text ≡ Err f) [
         | inl open_end ↦
-          let o = unfinished-open items last h.rest f open_end in
-          let is : record { at = f.at; cause = OpenBlock } ≡ f = ap (λ n. record { at = n; cause = OpenBlock }) (ap (λ (x : VcdFault). x.at) open_end.fault) ∙ sym open_end.fault in
-          ap (λ (r : Read). ends r.items r.state end) (so_far ∙ o.read)
-          ∙ ap (reading_by last.variables items) (o.fault last.is_declared end)
-          ∙ ap Err is
+            let o = unfinished-open items last h.rest f open_end in
+            let is : record { at = f.at; cause = OpenBlock } ≡ f = ap (λ n. record { at = n; cause = OpenBlock }) (ap (λ (x : VcdFault). x.at) open_end.fault) ∙ sym open_end.fault in
+            ap (λ (r : Read). ends r.items r.state end) (so_far ∙ o.read)
+            ∙ ap (reading_by last.variables items) (o.fault last.is_declared end)
+            ∙ ap Err is
         | inr missing ↦
-          ap (λ (r : Read). ends r.items r.state end) (so_far ∙ ap (fold go (said (state_of last) items)) missing.tokens)
-          ∙ ap (λ b. reading_by last.variables items (cond b None (Some (record { at = end; cause = NoDefinitionsEnd })))) missing.not
-          ∙ ap Err (sym missing.fault)
+            ap (λ (r : Read). ends r.items r.state end) (so_far ∙ ap (fold go (said (state_of last) items)) missing.tokens)
+            ∙ ap (λ b. reading_by last.variables items (cond b None (Some (record { at = end; cause = NoDefinitionsEnd })))) missing.not
+            ∙ ap Err (sym missing.fault)
       ]
     ]

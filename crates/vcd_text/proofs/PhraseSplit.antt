@@ -1,5 +1,5 @@
 -- The tokens of every text are a row of well-formed phrases, or have a fault behind one.
-use Rattle.std.proofs.Common.{◌≡◌, ◌⊎◌, ℕ, ◌&&◌, ◌||◌, ◌==◌, Bool, true, false, not, cond, List, [], ◌∷◌, ◌++◌, map, length, Option, Some, None, Result, Ok, Err, inl, inr, refl, sym, ap, ◌∙◌, subst, append_assoc}
+use Rattle.std.proofs.Common.{◌≡◌, ◌⊎◌, ℕ, ◌&&◌, ◌||◌, ◌==◌, Bool, true, false, not, cond, List, [], ◌∷◌, ◌++◌, length, Result, Ok, Err, inl, inr, refl, sym, ap, ◌∙◌, subst, append_assoc}
 use Rattle.std.specs.Prelude.{codes}
 use Rattle.std.proofs.lemmas.Bool.{eqb-true}
 use Rattle.std.proofs.lemmas.List.{append-nil, map-append}
@@ -12,7 +12,7 @@ use Rattle.vcd_text.specs.declared.keyword.Keyword.TheVariants.{Scope, Upscope, 
 use Rattle.vcd_text.specs.Words.{digit, digits, keyword, is_command, is_end, is_one_of, number_sign, dollar_sign}
 use Rattle.vcd_text.specs.Tokens.{Token}
 use Rattle.vcd_text.specs.Reading.{Reading, reading_of}
-use Rattle.vcd_text.specs.Phrases.{Phrase, ScopeBlock, UpscopeBlock, VarBlock, EndDefinitionsBlock, OtherBlock, SimulationTime, ScalarChange, VectorChange, PassedChange, SimulationKeyword, StrayToken, Context, HasForm, PlacedPhrase, IsPhrase, IsWellFormed, AreWellFormed, IsIllFormed, IsUnfinished, IsUndeclared, IsRowOf, FailsBehind, tokens_of, block_tokens, is_other, is_declaring, is_simulation_keyword, has_digits, has_digit_and_code, opens_block, opens_change, is_single, is_stray, are_block_words, demands, first_context, after, after_all, all_say, tokens_in, tokens_of_text, fault_place}
+use Rattle.vcd_text.specs.Phrases.{Phrase, ScopeBlock, UpscopeBlock, VarBlock, EndDefinitionsBlock, OtherBlock, SimulationTime, ScalarChange, VectorChange, PassedChange, SimulationKeyword, StrayToken, Context, HasForm, PlacedPhrase, IsPhrase, IsWellFormed, AreWellFormed, IsIllFormed, IsUnfinished, IsUndeclared, IsRowOf, FailsBehind, tokens_of, block_tokens, is_other, is_declaring, is_simulation_keyword, has_digits, has_digit_and_code, opens_block, opens_change, is_single, are_block_words, demands, first_context, after, after_all, all_say, tokens_in, tokens_of_text, fault_place}
 use Rattle.vcd_text.proofs.PhraseSteps.{texts, both, negated, Spelled, spelled, end-is}
 use Rattle.vcd_text.proofs.PhraseReads.{either}
 use Rattle.vcd_text.proofs.PhraseRows.{row-reading, row-fault}
@@ -89,8 +89,8 @@ block-forms d w words o h =
     elim (either (is_other d (keyword w)) (not d && is_declaring (keyword w)) e.1) as (λ _. Forms d (block_tokens w words)) [
       | inl other ↦ record { phrase = OtherBlock w words; spelled = refl; form = (e.0, other, h) }
       | inr declares ↦
-        let x = both (not d) (is_declaring (keyword w)) declares in
-        declaring-forms d w words (keyword w) (negated d x.0) (spelled w) x.1 h
+          let x = both (not d) (is_declaring (keyword w)) declares in
+          declaring-forms d w words (keyword w) (negated d x.0) (spelled w) x.1 h
     ]
 
 change-forms : (d : Bool) (w code : List ℕ) → d ≡ true → opens_change w ≡ true → Forms d (w ∷ code ∷ [])
@@ -175,7 +175,7 @@ splits-block c first words t ts end h next =
     by true e =
         let f = block-forms c.is_declared first.text (texts words) h.0 h.1 in
         let same : texts (first ∷ (words ++ t ∷ [])) ≡ block_tokens first.text (texts words) =
-            ap (λ ws. first.text ∷ ws) (texts-push words t ∙ ap (λ w. texts words ++ w ∷ []) (end-is t.text e)) in
+        ap (λ ws. first.text ∷ ws) (texts-push words t ∙ ap (λ w. texts words ++ w ∷ []) (end-is t.text e)) in
         of-form c (first ∷ (words ++ t ∷ [])) ts end (record { phrase = f.phrase; spelled = same ∙ f.spelled; form = f.form }) next
     by false e = next c (InBlock first (words ++ t ∷ [])) (h.0, ap are_block_words (texts-push words t) ∙ words-push (texts words) t.text h.1 e)
 
@@ -211,24 +211,24 @@ split-of text = splits (tokens_of_text text) (length text) first_context Idle tt
 pub reading-row : (text : List ℕ) (r : Reading) → reading_of text ≡ Ok r → (row : List PlacedPhrase) × IsRowOf text row r
 reading-row text r e = elim (split-of text) as (λ _. (row : List PlacedPhrase) × IsRowOf text row r) [
   | inl w ↦
-    let read : Reading = record { variables = (after_all first_context w.row).variables; items = all_say first_context w.row } in
-    let is = row-reading text w.row read (record { tokens = w.tokens; formed = w.formed; declared = w.declared; said = refl }) in
-    let same : r ≡ read = cc in
-    (w.row, record { tokens = w.tokens; formed = w.formed; declared = w.declared; said = same })
+      let read : Reading = record { variables = (after_all first_context w.row).variables; items = all_say first_context w.row } in
+      let is = row-reading text w.row read (record { tokens = w.tokens; formed = w.formed; declared = w.declared; said = refl }) in
+      let same : r ≡ read = cc in
+      (w.row, record { tokens = w.tokens; formed = w.formed; declared = w.declared; said = same })
   | inr s ↦
-    let is = row-fault text s.row s.f (record { rest = s.rest; tokens = s.tokens; formed = s.formed; fault = s.fault }) in
-    absurd cc
+      let is = row-fault text s.row s.f (record { rest = s.rest; tokens = s.tokens; formed = s.formed; fault = s.fault }) in
+      absurd cc
 ]
 
 pub fault-row : (text : List ℕ) (f : VcdFault) → reading_of text ≡ Err f → (row : List PlacedPhrase) × FailsBehind text row f
 fault-row text f e = elim (split-of text) as (λ _. (row : List PlacedPhrase) × FailsBehind text row f) [
   | inl w ↦
-    let read : Reading = record { variables = (after_all first_context w.row).variables; items = all_say first_context w.row } in
-    let is = row-reading text w.row read (record { tokens = w.tokens; formed = w.formed; declared = w.declared; said = refl }) in
-    absurd cc
+      let read : Reading = record { variables = (after_all first_context w.row).variables; items = all_say first_context w.row } in
+      let is = row-reading text w.row read (record { tokens = w.tokens; formed = w.formed; declared = w.declared; said = refl }) in
+      absurd cc
   | inr s ↦
-    let fails : FailsBehind text s.row s.f = record { rest = s.rest; tokens = s.tokens; formed = s.formed; fault = s.fault } in
-    let is = row-fault text s.row s.f fails in
-    let same : s.f ≡ f = cc in
-    (s.row, subst (FailsBehind text s.row) same fails)
+      let fails : FailsBehind text s.row s.f = record { rest = s.rest; tokens = s.tokens; formed = s.formed; fault = s.fault } in
+      let is = row-fault text s.row s.f fails in
+      let same : s.f ≡ f = cc in
+      (s.row, subst (FailsBehind text s.row) same fails)
 ]

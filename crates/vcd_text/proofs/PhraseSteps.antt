@@ -1,8 +1,8 @@
 -- What the tokens of a phrase do to the state of a reader.
-use Rattle.std.proofs.Common.{◌≡◌, ◌⊎◌, ℕ, ◌-◌, ◌==◌, ◌&&◌, ◌||◌, Bool, true, false, not, cond, nat_le, nat_lt, List, [], ◌∷◌, ◌++◌, map, length, take, Option, Some, None, Result, Ok, Err, inl, inr, refl, sym, ap, ◌∙◌, subst, arith}
+use Rattle.std.proofs.Common.{◌≡◌, ◌⊎◌, ℕ, ◌-◌, ◌==◌, ◌&&◌, ◌||◌, Bool, true, false, not, cond, nat_le, nat_lt, List, [], ◌∷◌, ◌++◌, map, length, take, Option, Some, None, Result, Ok, Err, inl, inr, refl, sym, ap, ◌∙◌, subst}
 use Rattle.std.specs.Prelude.{unwrap_or, codes}
 use Rattle.std.specs.List.{fold}
-use Rattle.std.specs.Option.{option_to_list, option_map}
+use Rattle.std.specs.Option.{option_map}
 use Rattle.std.specs.Str.{bytes_eq, is_utf8}
 use Rattle.std.proofs.lemmas.Bool.{eqb-true}
 use Rattle.std.proofs.lemmas.List.{append-nil}
@@ -10,8 +10,7 @@ use Rattle.std.proofs.lemmas.Slice.Eq.{bytes_eq-Decides}
 use Rattle.xif_base.specs.Checks.{first_fault}
 use Rattle.vcd_text.specs.declared.digit.Digit.{Digit}
 use Rattle.vcd_text.specs.declared.fault.VcdCause.{VcdCause}
-use Rattle.vcd_text.specs.declared.fault.VcdCause.TheVariants.{BadToken, OpenBlock, BadVar, SizeDiffers, UnknownCode, TooWide, BadTime, TimeBack}
-use Rattle.vcd_text.specs.declared.fault.VcdFault.{VcdFault}
+use Rattle.vcd_text.specs.declared.fault.VcdCause.TheVariants.{BadToken, BadVar, SizeDiffers, UnknownCode, TooWide, TimeBack}
 use Rattle.vcd_text.specs.declared.item.Item.{Item}
 use Rattle.vcd_text.specs.declared.item.Item.TheVariants.{Time, Change}
 use Rattle.vcd_text.specs.declared.keyword.Keyword.{Keyword}
@@ -21,10 +20,10 @@ use Rattle.vcd_text.specs.declared.state.Part.TheVariants.{Nothing, Block, Skipp
 use Rattle.vcd_text.specs.declared.state.State.{State}
 use Rattle.vcd_text.specs.Words.{number, digit, digits, with_digit, keyword, is_command, is_end, is_code, is_one_of, number_sign, dollar_sign}
 use Rattle.vcd_text.specs.Tokens.{Token}
-use Rattle.vcd_text.specs.Codes.{Code, code_from}
-use Rattle.vcd_text.specs.Grammar.{Step, fault, goes, with_part, change_of, change, time_of, scalar, vector, command, body, var_at, var_sized, var, scope, upscope, block, opened, declaration, kept, in_part, step}
-use Rattle.vcd_text.specs.Reading.{Read, go, moved, fault_in}
-use Rattle.vcd_text.specs.Phrases.{Phrase, ScopeBlock, UpscopeBlock, VarBlock, EndDefinitionsBlock, OtherBlock, SimulationTime, ScalarChange, VectorChange, PassedChange, SimulationKeyword, StrayToken, Context, HasForm, PlacedPhrase, IsPhrase, IsUnfinished, tokens_of, block_tokens, is_other, is_declaring, is_simulation_keyword, has_digits, has_digit_and_code, opens_block, opens_change, is_single, is_stray, are_block_words, scope_demands, has_size, var_demands, var_block_demands, change_demands, time_demands, value_of, demands, with_variable, after, change_said, says, fault_place}
+use Rattle.vcd_text.specs.Codes.{code_from}
+use Rattle.vcd_text.specs.Grammar.{Step, fault, goes, with_part, change_of, time_of, scalar, vector, command, body, var_at, var_sized, var, scope, upscope, block, opened, declaration, kept, step}
+use Rattle.vcd_text.specs.Reading.{go, moved}
+use Rattle.vcd_text.specs.Phrases.{Phrase, ScopeBlock, UpscopeBlock, VarBlock, SimulationTime, ScalarChange, Context, is_other, is_declaring, is_simulation_keyword, has_digits, has_digit_and_code, opens_block, opens_change, is_single, is_stray, are_block_words, has_size, var_demands, change_demands, time_demands, value_of, demands, with_variable, after, change_said, says, fault_place}
 use Rattle.vcd_text.proofs.Texts.{fold-append}
 use Rattle.vcd_text.proofs.Says.{said}
 
@@ -98,7 +97,7 @@ in_block items s at k words [] h = refl
 in_block items s at k words (t ∷ ts) h =
     let e = both (not (is_end t.text)) (are_block_words (texts ts)) h in
     let one : step (with_part s (Block at k words)) t ≡ goes (with_part s (Block at k (kept words t.text))) =
-        ap (λ b. cond b (block (with_part s Nothing) at k words) (goes (with_part s (Block at k (kept words t.text))))) (negated (is_end t.text) e.0) in
+    ap (λ b. cond b (block (with_part s Nothing) at k words) (goes (with_part s (Block at k (kept words t.text))))) (negated (is_end t.text) e.0) in
     ap (λ r. fold go r ts) (quiet items (with_part s (Block at k words)) (with_part s (Block at k (kept words t.text))) t one)
     ∙ in_block items s at k (kept words t.text) ts e.1
 
@@ -108,7 +107,7 @@ in_skipped items s at [] h = refl
 in_skipped items s at (t ∷ ts) h =
     let e = both (not (is_end t.text)) (are_block_words (texts ts)) h in
     let one : step (with_part s (Skipped at)) t ≡ goes (with_part s (Skipped at)) =
-        ap (λ b. cond b (goes (with_part s Nothing)) (goes (with_part s (Skipped at)))) (negated (is_end t.text) e.0) in
+    ap (λ b. cond b (goes (with_part s Nothing)) (goes (with_part s (Skipped at)))) (negated (is_end t.text) e.0) in
     ap (λ r. fold go r ts) (quiet items (with_part s (Skipped at)) (with_part s (Skipped at)) t one) ∙ in_skipped items s at ts e.1
 
 kept_four : (a b c d : List ℕ) (ws : List (List ℕ)) → kept_all (a ∷ b ∷ c ∷ d ∷ []) ws ≡ a ∷ b ∷ c ∷ d ∷ []
@@ -193,6 +192,7 @@ var_sized-is c t ts words code name (Some size) e = by (nat_le size 1048576) (is
   where
     known : Option (ℕ × ℕ)
     known = code_from 0 code c.codes
+
     by : (x y z : Bool) → cond ((x && y) && z) (var_at (state_of c) t.at code size name (code_from 0 code c.codes)) (fault BadVar t.at)
         ≡ outcome c (VarBlock words) (t ∷ ts) (first_fault ((x, BadVar) ∷ (y, BadVar) ∷ (z, BadVar) ∷ (has_size size (code_from 0 code c.codes), SizeDiffers) ∷ []))
     by true true true = var_at-is c t ts words size code name (code_from 0 code c.codes) e
@@ -317,8 +317,8 @@ scalar-body s at b bs h =
       | inr x ↦ absurd (digit-no 66 b bs x refl h)
     ]) (λ _.
     if_so (is_one_of (codes "rRsS") b) _ _ _ (λ e. elim (one_of_four 114 82 115 83 b e) [
-      | inl x ↦ elim x [ | inl y ↦ absurd (digit-no 114 b bs y refl h) | inr y ↦ absurd (digit-no 82 b bs y refl h) ]
-      | inr x ↦ elim x [ | inl y ↦ absurd (digit-no 115 b bs y refl h) | inr y ↦ absurd (digit-no 83 b bs y refl h) ]
+      | inl x ↦ elim x [ inl y ↦ absurd (digit-no 114 b bs y refl h) | inr y ↦ absurd (digit-no 82 b bs y refl h) ]
+      | inr x ↦ elim x [ inl y ↦ absurd (digit-no 115 b bs y refl h) | inr y ↦ absurd (digit-no 83 b bs y refl h) ]
     ]) (λ _.
     if_so (b == dollar_sign) _ _ _ (λ e. absurd (digit-no 36 b bs (eqb-true b 36 e) refl h)) (λ _. refl))))
 
@@ -341,14 +341,14 @@ vector-opens s at (Some (d ∷ ds)) h = refl
 pub vector-body : (s : State) (at b : ℕ) (bs : List ℕ) → is_one_of (codes "bB") b ≡ true → body s at (b ∷ bs) ≡ vector s at (digits bs)
 vector-body s at b bs h =
     let P : ℕ → Type 0 = λ x. body s at (x ∷ bs) ≡ vector s at (digits bs) in
-    elim (one_of_two 98 66 b h) [ | inl x ↦ subst P (sym x) refl | inr x ↦ subst P (sym x) refl ]
+    elim (one_of_two 98 66 b h) [ inl x ↦ subst P (sym x) refl | inr x ↦ subst P (sym x) refl ]
 
 pub passed-body : (s : State) (at b : ℕ) (bs : List ℕ) → is_one_of (codes "rRsS") b ≡ true → body s at (b ∷ bs) ≡ goes (with_part s (Passed at))
 passed-body s at b bs h =
     let P : ℕ → Type 0 = λ x. body s at (x ∷ bs) ≡ goes (with_part s (Passed at)) in
     elim (one_of_four 114 82 115 83 b h) [
-      | inl x ↦ elim x [ | inl y ↦ subst P (sym y) refl | inr y ↦ subst P (sym y) refl ]
-      | inr x ↦ elim x [ | inl y ↦ subst P (sym y) refl | inr y ↦ subst P (sym y) refl ]
+      | inl x ↦ elim x [ inl y ↦ subst P (sym y) refl | inr y ↦ subst P (sym y) refl ]
+      | inr x ↦ elim x [ inl y ↦ subst P (sym y) refl | inr y ↦ subst P (sym y) refl ]
     ]
 
 -- ---- a stray token

@@ -2,7 +2,7 @@
 -- phrases: each is of one production, and well formed in the context that the phrases before it make. `grammar_law`
 -- says that texts are read so: what a text says is what its phrases say, and its fault is that of the first phrase
 -- that isn't well formed.
-use Rattle.std.specs.Prelude.{◌≡◌, ◌⊎◌, ⊤, ℕ, ◌-◌, ◌==◌, ◌&&◌, ◌||◌, Bool, true, false, not, if◌then◌else◌, nat_le, nat_lt, unwrap_or, List, [], ◌∷◌, ◌++◌, map, length, take, Option, Some, None, Result, Ok, Err, codes}
+use Rattle.std.specs.Prelude.{◌≡◌, ◌⊎◌, ⊤, ℕ, ◌-◌, ◌==◌, ◌&&◌, ◌||◌, Bool, true, false, not, if◌then◌else◌, nat_le, nat_lt, unwrap_or, List, [], ◌∷◌, ◌++◌, map, length, take, Option, Some, None, Ok, Err, codes}
 use Rattle.std.specs.List.{flat_map, list_all}
 use Rattle.std.specs.Option.{option_map, option_to_list}
 use Rattle.std.specs.Str.{is_utf8}
@@ -318,7 +318,7 @@ pub record IsUnfinished (c : Context) (rest : List Token) (f : VcdFault) : Type 
   pub words : List Token
   pub tokens : rest ≡ first ∷ words
   pub opens : ((opens_block c.is_declared first.text ≡ true) × (are_block_words (map (λ (t : Token). t.text) words) ≡ true))
-    ⊎ ((c.is_declared ≡ true) × (opens_change first.text ≡ true) × (words ≡ []))
+      ⊎ ((c.is_declared ≡ true) × (opens_change first.text ≡ true) × (words ≡ []))
   pub fault : f ≡ record { at = first.at; cause = OpenBlock }
 
 -- nothing follows, but the declarations aren't complete
@@ -333,4 +333,4 @@ pub record FailsBehind (text : List ℕ) (row : List PlacedPhrase) (f : VcdFault
   pub tokens : tokens_of_text text ≡ tokens_in row ++ rest
   pub formed : AreWellFormed first_context row
   pub fault : IsIllFormed (after_all first_context row) rest f
-    ⊎ (IsUnfinished (after_all first_context row) rest f ⊎ IsUndeclared (after_all first_context row) rest (length text) f)
+      ⊎ (IsUnfinished (after_all first_context row) rest f ⊎ IsUndeclared (after_all first_context row) rest (length text) f)

@@ -35,14 +35,14 @@ pub record Steps (old new : Scanner) (b : ℕ) : Type 0 where
   pub size : new.size ≡ old.size + 1
   pub run : new.run.items ≡ (if is_white b then [] else old.run.items ++ b ∷ [])
   pub read : (taken : List Item) → read_by new taken ≡ (if is_white b
-    then fold go (read_by old taken) (token_before old.size old.run.items) else read_by old taken)
+      then fold go (read_by old taken) (token_before old.size old.run.items) else read_by old taken)
 
 -- what a token and white space behind it do, where no token is open and there is no fault before them
 pub record TakesToken (old new : Scanner) (token : List ℕ) : Type 0 where
   pub size : new.size ≡ old.size + length token + 1
   pub run : new.run.items ≡ []
   pub read : (taken : List Item) →
-    read_by new taken ≡ fold go (read_by old taken) (token_before (old.size + length token) token)
+      read_by new taken ≡ fold go (read_by old taken) (token_before (old.size + length token) token)
 
 -- each code took a byte at least, and so does the token that is open
 abbrev pub HasRoom : Scanner → Type 0

@@ -129,8 +129,7 @@ impl Reader {
 
     /// The next item that was read and not taken.
     pub fn take(&mut self) -> Option<Item>
-        ensures item {
-            result ≡ (if self.old.has_failed then None else slice_get self.old.read.items 0) }
+        ensures item { result ≡ (if self.old.has_failed then None else slice_get self.old.read.items 0) }
         ensures rest { self.new ≡ after_take self.old }
         ensures represents { (text : List ℕ) (taken : List Item) → Represents self.old text taken →
             MatchOption result (Represents self.new text taken)
