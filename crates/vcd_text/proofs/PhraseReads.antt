@@ -209,7 +209,7 @@ unfinished-open items c rest f h =
     let at : f.at ≡ h.first.at = ap (λ (x : VcdFault). x.at) h.fault in
     subst (λ n. LeavesOpen items c rest n) (sym at)
     (subst (λ ts. LeavesOpen items c ts h.first.at) (sym h.tokens)
-    (elim h.opens as (λ _. LeavesOpen items c (h.first ∷ h.words) h.first.at) [
+    (elim h.lacks as (λ _. LeavesOpen items c (h.first ∷ h.words) h.first.at) [
       | inl block ↦ block-open items c h.first h.words block.0 block.1
       | inr pair ↦ subst (λ ws. LeavesOpen items c (h.first ∷ ws) h.first.at) (sym pair.2) (change-open_by items c h.first h.first.text pair.0 refl pair.1)
     ]))

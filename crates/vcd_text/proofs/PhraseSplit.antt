@@ -12,7 +12,7 @@ use Rattle.vcd_text.specs.declared.keyword.Keyword.TheVariants.{Scope, Upscope, 
 use Rattle.vcd_text.specs.Words.{digit, digits, keyword, is_command, is_end, is_one_of, number_sign, dollar_sign}
 use Rattle.vcd_text.specs.Tokens.{Token}
 use Rattle.vcd_text.specs.Reading.{Reading, reading_of}
-use Rattle.vcd_text.specs.Phrases.{Phrase, ScopeBlock, UpscopeBlock, VarBlock, EndDefinitionsBlock, OtherBlock, SimulationTime, ScalarChange, VectorChange, PassedChange, SimulationKeyword, StrayToken, Context, HasForm, PlacedPhrase, IsPhrase, IsWellFormed, AreWellFormed, IsIllFormed, IsUnfinished, IsUndeclared, IsRowOf, FailsBehind, tokens_of, block_tokens, is_other, is_declaring, is_simulation_keyword, has_digits, has_digit_and_code, opens_block, opens_change, is_single, are_block_words, demands, first_context, after, after_all, all_say, tokens_in, tokens_of_text, fault_place}
+use Rattle.vcd_text.specs.Phrases.{Phrase, ScopeBlock, UpscopeBlock, VarBlock, EndDefinitionsBlock, OtherBlock, SimulationTime, ScalarChange, VectorChange, PassedChange, SimulationKeyword, StrayToken, Context, HasForm, PlacedPhrase, IsPhrase, IsWellFormed, AreWellFormed, HasFault, IsRowOf, FailsBehind, tokens_of, block_tokens, is_other, is_declaring, is_simulation_keyword, has_digits, has_digit_and_code, opens_block, opens_change, is_single, are_block_words, demands, first_context, after, after_all, all_say, tokens_in, tokens_of_text, fault_place}
 use Rattle.vcd_text.proofs.PhraseSteps.{texts, both, negated, Spelled, spelled, end-is}
 use Rattle.vcd_text.proofs.PhraseReads.{either}
 use Rattle.vcd_text.proofs.PhraseRows.{row-reading, row-fault}
@@ -31,12 +31,12 @@ record Stops (c : Context) (ts : List Token) (end : ℕ) : Type 0 where
   f : VcdFault
   tokens : ts ≡ tokens_in row ++ rest
   formed : AreWellFormed c row
-  fault : IsIllFormed (after_all c row) rest f ⊎ (IsUnfinished (after_all c row) rest f ⊎ IsUndeclared (after_all c row) rest end f)
+  fault : HasFault (after_all c row) rest end f
 
 abbrev Splits : Context → List Token → ℕ → Type 0
 Splits c ts end = Whole c ts ⊎ Stops c ts end
 
-stops-here : (c : Context) (ts : List Token) (end : ℕ) (f : VcdFault) → IsIllFormed c ts f ⊎ (IsUnfinished c ts f ⊎ IsUndeclared c ts end f) → Splits c ts end
+stops-here : (c : Context) (ts : List Token) (end : ℕ) (f : VcdFault) → HasFault c ts end f → Splits c ts end
 stops-here c ts end f h = inr (record { row = []; rest = ts; f = f; tokens = refl; formed = tt; fault = h })
 
 -- a well-formed phrase, and what follows it
@@ -194,10 +194,10 @@ splits-end end c Idle p = by c.is_declared refl
         (inr (inr (record { tokens = refl; not = e; fault = refl })))
 splits-end end c (InBlock first words) p =
     stops-here c ((first ∷ words) ++ []) end (record { at = first.at; cause = OpenBlock })
-    (inr (inl (record { first = first; words = words; tokens = append-nil (first ∷ words); opens = inl (p.0, p.1); fault = refl })))
+    (inr (inl (record { first = first; words = words; tokens = append-nil (first ∷ words); lacks = inl (p.0, p.1); fault = refl })))
 splits-end end c (InChange first) p =
     stops-here c (first ∷ []) end (record { at = first.at; cause = OpenBlock })
-    (inr (inl (record { first = first; words = []; tokens = refl; opens = inr (p.0, p.1, refl); fault = refl })))
+    (inr (inl (record { first = first; words = []; tokens = refl; lacks = inr (p.0, p.1, refl); fault = refl })))
 
 splits : (ts : List Token) (end : ℕ) → Follow ts end
 splits [] end = splits-end end

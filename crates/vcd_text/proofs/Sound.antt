@@ -16,10 +16,10 @@ use Rattle.vcd_text.specs.declared.keyword.Keyword.TheVariants.{Scope, Upscope, 
 use Rattle.vcd_text.specs.declared.state.Part.{Part}
 use Rattle.vcd_text.specs.declared.state.Part.TheVariants.{Nothing, Block, Skipped, Vector, Passed}
 use Rattle.vcd_text.specs.declared.state.State.{State}
-use Rattle.vcd_text.specs.Codes.{Code, code_from}
+use Rattle.vcd_text.specs.Codes.{Code, code_from, full_name}
 use Rattle.vcd_text.specs.Tokens.{Token}
 use Rattle.vcd_text.specs.Words.{number_sign, dollar_sign, is_one_of, number, digit, digits, keyword, is_command, is_end, is_code}
-use Rattle.vcd_text.specs.Grammar.{Step, goes, with_part, change_of, change, time_of, scalar, vector, command, body, var_at, var_sized, var, scope, upscope, block, opened, kept, declared, full_name, in_part, step}
+use Rattle.vcd_text.specs.Grammar.{Step, goes, with_part, change_of, change, time_of, scalar, vector, command, body, var_at, var_sized, var, scope, upscope, block, opened, kept, declared, in_part, step}
 use Rattle.vcd_text.specs.Sizes.{size_of, AreConsistent, FitsDeclared}
 use Rattle.vcd_text.specs.Sound.{size_at, IsPlaced, IsSound}
 

@@ -1,5 +1,6 @@
--- The reader's automaton over the grammar of `Phrases`: each token takes the reading from one state to the next, or
--- is the fault. The contracts of the code cite it. That it reads as the grammar says is `grammar_law`.
+-- The reader's automaton over the grammar of `Phrases`: each token takes the reading from one state
+-- to the next, or is the fault. The contracts of the code cite it. That it reads as the grammar
+-- says is `grammar_law`.
 use Rattle.std.specs.Prelude.{ℕ, ◌-◌, ◌==◌, ◌&&◌, true, codes, if◌then◌else◌, nat_le, nat_lt, List, [], ◌∷◌, ◌++◌, length, take, Option, Some, None, Result, Ok, Err}
 use Rattle.std.specs.Str.{is_utf8}
 use Rattle.vcd_text.specs.declared.digit.Digit.{Digit}
@@ -13,9 +14,9 @@ use Rattle.vcd_text.specs.declared.state.State.{State}
 use Rattle.vcd_text.specs.declared.fault.VcdCause.{VcdCause}
 use Rattle.vcd_text.specs.declared.fault.VcdCause.TheVariants.{BadToken, BadVar, SizeDiffers, UnknownCode, TooWide, BadTime, TimeBack}
 use Rattle.vcd_text.specs.declared.fault.VcdFault.{VcdFault}
-use Rattle.vcd_text.specs.Words.{number_sign, dollar_sign, full_stop, is_one_of, number, digit, digits, keyword, is_command, is_end, is_code}
+use Rattle.vcd_text.specs.Words.{number_sign, dollar_sign, is_one_of, number, digit, digits, keyword, is_command, is_end, is_code}
 use Rattle.vcd_text.specs.Tokens.{Token}
-use Rattle.vcd_text.specs.Codes.{Code, code_from}
+use Rattle.vcd_text.specs.Codes.{Code, code_from, full_name}
 
 -- the next state, and the item that a token completes; or the fault
 abbrev pub Step : Type 0
@@ -31,21 +32,22 @@ goes s = Ok (s, None)
 abbrev pub with_part : State → Part → State
 with_part s part = record s { part = part }
 
--- ---- declarations (18.2.3)
--- The offset is that of the block's first token.
-
--- the names of the open scopes and a name, joined by full stops
-abbrev pub full_name : List (List ℕ) → List ℕ → List ℕ
-full_name [] name = name
-full_name (s ∷ ss) name = s ++ full_stop ∷ full_name ss name
+-- ---- declarations (18.2.3). The offset is that of the block's first token.
 
 abbrev pub declared : State → List ℕ → ℕ → ℕ → List Code → State
 declared s name code size cs =
-    record s { codes = cs; variables = s.variables ++ record { name = full_name s.scopes name; code = code; size = size } ∷ [] }
+    record s {
+      codes = cs;
+      variables =
+          s.variables ++ record { name = full_name s.scopes name; code = code; size = size } ∷ [];
+    }
 
 -- a new code has the next number
 abbrev pub var_at : State → ℕ → List ℕ → ℕ → List ℕ → Option (ℕ × ℕ) → Step
-var_at s at text size name None = goes (declared s name (length s.codes) size (s.codes ++ record { text = text; size = size } ∷ []))
+var_at s at text size name None =
+    goes (
+    declared s name (length s.codes) size (s.codes ++ record { text = text; size = size } ∷ [])
+    )
 var_at s at text size name (Some known) =
     if known.1 == size then goes (declared s name known.0 size s.codes) else fault SizeDiffers at
 
@@ -102,7 +104,8 @@ kept words text = if nat_lt (length words) 4 then words ++ text ∷ [] else word
 abbrev pub change_of : State → ℕ → ℕ → List Digit → Option (ℕ × ℕ) → Step
 change_of s at code_at digits None = fault UnknownCode code_at
 change_of s at code_at digits (Some known) =
-    if nat_le (length digits) known.1 then Ok (s, Some (Change known.0 digits)) else fault TooWide at
+    if nat_le (length digits) known.1 then Ok (s, Some (Change known.0 digits))
+    else fault TooWide at
 
 -- a change at an offset, of a code at an offset
 abbrev pub change : State → ℕ → List Digit → ℕ → List ℕ → Step

@@ -1,7 +1,7 @@
--- The grammar of waveforms (IEEE 1364-2005, clause 18), beside the standard's own. The tokens of a text are a row of
--- phrases: each is of one production, and well formed in the context that the phrases before it make. `grammar_law`
--- says that texts are read so: what a text says is what its phrases say, and its fault is that of the first phrase
--- that isn't well formed.
+-- The grammar of waveforms (IEEE 1364-2005, clause 18), beside the standard's own. The tokens of a
+-- text are a row of phrases: each is of one production, and well formed in the context that the
+-- phrases before it make. `grammar_law` says that texts are read so: what a text says is what its
+-- phrases say, and its fault is that of the first phrase that isn't well formed.
 use Rattle.std.specs.Prelude.{◌≡◌, ◌⊎◌, ⊤, ℕ, ◌-◌, ◌==◌, ◌&&◌, ◌||◌, Bool, true, false, not, if◌then◌else◌, nat_le, nat_lt, unwrap_or, List, [], ◌∷◌, ◌++◌, map, length, take, Option, Some, None, Ok, Err, codes}
 use Rattle.std.specs.List.{flat_map, list_all}
 use Rattle.std.specs.Option.{option_map, option_to_list}
@@ -18,8 +18,7 @@ use Rattle.vcd_text.specs.declared.keyword.Keyword.{Keyword}
 use Rattle.vcd_text.specs.declared.keyword.Keyword.TheVariants.{Scope, Upscope, Var, EndDefinitions, End, Dump, Other}
 use Rattle.vcd_text.specs.Words.{number_sign, dollar_sign, is_one_of, number, digit, digits, keyword, is_command, is_end, is_code}
 use Rattle.vcd_text.specs.Tokens.{Token, complete, ended}
-use Rattle.vcd_text.specs.Codes.{Code, code_from}
-use Rattle.vcd_text.specs.Grammar.{full_name}
+use Rattle.vcd_text.specs.Codes.{Code, code_from, full_name}
 use Rattle.vcd_text.specs.Reading.{Reading}
 
 -- ---- productions (18.2.1)
@@ -31,11 +30,13 @@ pub data Phrase : Type 0 where
   ScopeBlock : (words : List (List ℕ)) → Phrase
   -- $upscope $end
   UpscopeBlock : (words : List (List ℕ)) → Phrase
-  -- $var var_type size identifier_code reference $end. Beyond the standard: more words are passed over.
+  -- $var var_type size identifier_code reference $end. Beyond the standard: more words are passed
+  -- over.
   VarBlock : (words : List (List ℕ)) → Phrase
   -- $enddefinitions $end
   EndDefinitionsBlock : (words : List (List ℕ)) → Phrase
-  -- $comment, $date, $timescale and $version, in the body too. Beyond the standard: any other keyword.
+  -- $comment, $date, $timescale and $version, in the body too. Beyond the standard: any other
+  -- keyword.
   OtherBlock : (first : List ℕ) (words : List (List ℕ)) → Phrase
   -- simulation_time ::= # decimal_number
   SimulationTime : (number : List ℕ) → Phrase
@@ -43,10 +44,11 @@ pub data Phrase : Type 0 where
   ScalarChange : (value : ℕ) (code : List ℕ) → Phrase
   -- vector_value_change ::= b binary_number identifier_code, or B
   VectorChange : (letter : ℕ) (number code : List ℕ) → Phrase
-  -- vector_value_change ::= r real_number identifier_code, or R. Beyond the standard: s and S, for strings. Neither
-  -- the value nor the code is looked at.
+  -- vector_value_change ::= r real_number identifier_code, or R. Beyond the standard: s and S, for
+  -- strings. Neither the value nor the code is looked at.
   PassedChange : (letter : ℕ) (value code : List ℕ) → Phrase
-  -- simulation_keyword, and the $end behind its changes. Beyond the standard: they needn't come in pairs.
+  -- simulation_keyword, and the $end behind its changes. Beyond the standard: they needn't come in
+  -- pairs.
   SimulationKeyword : (word : List ℕ) → Phrase
   -- a token that begins none of these
   StrayToken : (word : List ℕ) → Phrase
@@ -121,7 +123,8 @@ has_digit_and_code _ _ = false
 -- a first token that opens a block
 abbrev pub opens_block : Bool → List ℕ → Bool
 opens_block is_declared word =
-    is_command word && (is_other is_declared (keyword word) || (not is_declared && is_declaring (keyword word)))
+    is_command word
+    && (is_other is_declared (keyword word) || (not is_declared && is_declaring (keyword word)))
 
 -- a first token of a change whose code is the next token
 abbrev pub opens_change : List ℕ → Bool
@@ -151,14 +154,17 @@ abbrev pub HasForm : Bool → Phrase → Type 0
 HasForm is_declared (ScopeBlock words) = (is_declared ≡ false) × (are_block_words words ≡ true)
 HasForm is_declared (UpscopeBlock words) = (is_declared ≡ false) × (are_block_words words ≡ true)
 HasForm is_declared (VarBlock words) = (is_declared ≡ false) × (are_block_words words ≡ true)
-HasForm is_declared (EndDefinitionsBlock words) = (is_declared ≡ false) × (are_block_words words ≡ true)
+HasForm is_declared (EndDefinitionsBlock words) =
+    (is_declared ≡ false) × (are_block_words words ≡ true)
 HasForm is_declared (OtherBlock first words) =
-    (is_command first ≡ true) × (is_other is_declared (keyword first) ≡ true) × (are_block_words words ≡ true)
+    (is_command first ≡ true) × (is_other is_declared (keyword first) ≡ true)
+    × (are_block_words words ≡ true)
 HasForm is_declared (SimulationTime number) = is_declared ≡ true
 HasForm is_declared (ScalarChange value code) =
     (is_declared ≡ true) × (has_digit_and_code (digit value) code ≡ true)
 HasForm is_declared (VectorChange letter number code) =
-    (is_declared ≡ true) × (is_one_of (codes "bB") letter ≡ true) × (has_digits (digits number) ≡ true)
+    (is_declared ≡ true) × (is_one_of (codes "bB") letter ≡ true)
+    × (has_digits (digits number) ≡ true)
 HasForm is_declared (PassedChange letter value code) =
     (is_declared ≡ true) × (is_one_of (codes "rRsS") letter ≡ true)
 HasForm is_declared (SimulationKeyword word) =
@@ -208,23 +214,30 @@ demands c (ScopeBlock words) = scope_demands c words
 demands c (UpscopeBlock words) = (not (length c.scopes == 0), BadToken) ∷ []
 demands c (VarBlock words) = var_block_demands c words
 demands c (SimulationTime digits) = time_demands c (number digits)
-demands c (ScalarChange value code) = change_demands (value_of (value ∷ [])) (code_from 0 code c.codes)
-demands c (VectorChange letter number code) = change_demands (value_of number) (code_from 0 code c.codes)
+demands c (ScalarChange value code) =
+    change_demands (value_of (value ∷ [])) (code_from 0 code c.codes)
+demands c (VectorChange letter number code) =
+    change_demands (value_of number) (code_from 0 code c.codes)
 demands c (StrayToken word) = (false, BadToken) ∷ []
 demands c _ = []
 
 -- ---- what a phrase makes of its context, and what it says
 
--- A variable's full name is those of the open scopes and its own, joined by full stops. A new code gets the next number.
+-- A variable's full name is those of the open scopes and its own, joined by full stops. A new code
+-- gets the next number.
 abbrev pub with_variable : Context → ℕ → List ℕ → List ℕ → Option (ℕ × ℕ) → Context
 with_variable c size code name None =
     record c {
       codes = c.codes ++ record { text = code; size = size } ∷ [];
-      variables = c.variables ++ record { name = full_name c.scopes name; code = length c.codes; size = size } ∷ [];
+      variables =
+          c.variables
+          ++ record { name = full_name c.scopes name; code = length c.codes; size = size } ∷ [];
     }
 with_variable c size code name (Some known) =
     record c {
-      variables = c.variables ++ record { name = full_name c.scopes name; code = known.0; size = size } ∷ [];
+      variables =
+          c.variables
+          ++ record { name = full_name c.scopes name; code = known.0; size = size } ∷ [];
     }
 
 abbrev pub after_var : Context → List (List ℕ) → Context
@@ -295,7 +308,10 @@ pub record IsRowOf (text : List ℕ) (row : List PlacedPhrase) (r : Reading) : T
   pub tokens : tokens_of_text text ≡ tokens_in row
   pub formed : AreWellFormed first_context row
   pub declared : (after_all first_context row).is_declared ≡ true
-  pub said : r ≡ record { variables = (after_all first_context row).variables; items = all_say first_context row }
+  pub said : r ≡ record {
+    variables = (after_all first_context row).variables;
+    items = all_say first_context row;
+  }
 
 -- an undeclared code is reported at its token, and all else at the phrase's first token
 abbrev pub fault_place : VcdCause → List Token → ℕ
@@ -312,13 +328,23 @@ pub record IsIllFormed (c : Context) (rest : List Token) (f : VcdFault) : Type 0
   pub cause : first_fault (demands c next.phrase) ≡ Err f.cause
   pub at : f.at ≡ fault_place f.cause next.tokens
 
+-- a block without its $end
+abbrev pub LacksEnd : Context → Token → List Token → Type 0
+LacksEnd c first words =
+    (opens_block c.is_declared first.text ≡ true)
+    × (are_block_words (map (λ (t : Token). t.text) words) ≡ true)
+
+-- a change without its code
+abbrev pub LacksCode : Context → Token → List Token → Type 0
+LacksCode c first words =
+    (c.is_declared ≡ true) × (opens_change first.text ≡ true) × (words ≡ [])
+
 -- a phrase is begun whose last token is missing
 pub record IsUnfinished (c : Context) (rest : List Token) (f : VcdFault) : Type 0 where
   pub first : Token
   pub words : List Token
   pub tokens : rest ≡ first ∷ words
-  pub opens : ((opens_block c.is_declared first.text ≡ true) × (are_block_words (map (λ (t : Token). t.text) words) ≡ true))
-      ⊎ ((c.is_declared ≡ true) × (opens_change first.text ≡ true) × (words ≡ []))
+  pub lacks : LacksEnd c first words ⊎ LacksCode c first words
   pub fault : f ≡ record { at = first.at; cause = OpenBlock }
 
 -- nothing follows, but the declarations aren't complete
@@ -327,10 +353,14 @@ pub record IsUndeclared (c : Context) (rest : List Token) (end : ℕ) (f : VcdFa
   pub not : c.is_declared ≡ false
   pub fault : f ≡ record { at = end; cause = NoDefinitionsEnd }
 
+-- what is wrong with tokens that begin with no well-formed phrase, in a text that ends at an offset
+abbrev pub HasFault : Context → List Token → ℕ → VcdFault → Type 0
+HasFault c rest end f =
+    IsIllFormed c rest f ⊎ (IsUnfinished c rest f ⊎ IsUndeclared c rest end f)
+
 -- behind a row of well-formed phrases a text has this fault
 pub record FailsBehind (text : List ℕ) (row : List PlacedPhrase) (f : VcdFault) : Type 0 where
   pub rest : List Token
   pub tokens : tokens_of_text text ≡ tokens_in row ++ rest
   pub formed : AreWellFormed first_context row
-  pub fault : IsIllFormed (after_all first_context row) rest f
-      ⊎ (IsUnfinished (after_all first_context row) rest f ⊎ IsUndeclared (after_all first_context row) rest (length text) f)
+  pub fault : HasFault (after_all first_context row) rest (length text) f

@@ -61,4 +61,6 @@ Closed new text taken (Err NoMemory) = new.has_failed ≡ true
 -- the first item is taken, unless the reader ran out of memory
 abbrev pub after_take : Progress → Progress
 after_take p =
-    record p { read = record p.read { items = if p.has_failed then p.read.items else drop 1 p.read.items } }
+    record p {
+      read = record p.read { items = if p.has_failed then p.read.items else drop 1 p.read.items };
+    }

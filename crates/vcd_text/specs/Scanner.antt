@@ -1,5 +1,5 @@
--- Internal: what the contracts of private functions cite; nothing here has to be believed. Which text a scanner
--- represents.
+-- Internal: what the contracts of private functions cite; nothing here has to be believed. Which
+-- text a scanner represents.
 use Rattle.std.specs.Prelude.{◌≡◌, ◌+◌, ◌≤◌, ℕ, Bool, if◌then◌else◌, List, [], ◌∷◌, ◌++◌, length, Option, Some, None, Result, Ok, Err}
 use Rattle.std.specs.List.{fold}
 use Rattle.vcd_text.specs.declared.fault.VcdFault.{VcdFault}
@@ -37,7 +37,8 @@ pub record Steps (old new : Scanner) (b : ℕ) : Type 0 where
   pub read : (taken : List Item) → read_by new taken ≡ (if is_white b
       then fold go (read_by old taken) (token_before old.size old.run.items) else read_by old taken)
 
--- what a token and white space behind it do, where no token is open and there is no fault before them
+-- what a token and white space behind it do, where no token is open and there is no fault before
+-- them
 pub record TakesToken (old new : Scanner) (token : List ℕ) : Type 0 where
   pub size : new.size ≡ old.size + length token + 1
   pub run : new.run.items ≡ []

@@ -106,6 +106,7 @@ is_command (b ∷ bs) = b == dollar_sign
 abbrev pub is_code_character : ℕ → Bool
 is_code_character b = nat_le (byte_of (codes "!")) b && nat_le b (byte_of (codes "~"))
 
--- an identifier code is 1 to 64 characters from ! to ~ (18.2.1; the length is a limit of this reader)
+-- an identifier code is 1 to 64 characters from ! to ~ (18.2.1; the length is a limit of this
+-- reader)
 abbrev pub is_code : List ℕ → Bool
 is_code w = (nat_le 1 (length w) && nat_le (length w) 64) && list_all is_code_character w

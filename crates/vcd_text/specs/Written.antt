@@ -1,5 +1,5 @@
--- The text of a list of buses (IEEE 1364-2005, clause 18): a header, and the changes of each cycle. And
--- what it says: its variables, and its times and changes.
+-- The text of a list of buses (IEEE 1364-2005, clause 18): a header, and the changes of each cycle.
+-- And what it says: its variables, and its times and changes.
 use Rattle.std.specs.Prelude.{ℕ, ◌+◌, ◌*◌, ◌==◌, Bool, false, if◌then◌else◌, nat_lt, List, [], ◌∷◌, ◌++◌, map, filter, drop, Option, Some, None, codes}
 use Rattle.std.specs.List.{flat_map}
 use Rattle.std.specs.Int.Digits.{digits_of}
@@ -79,10 +79,12 @@ changed_line p a b s =
 
 abbrev pub header_text : Params → List ℕ
 header_text p =
-    codes "$timescale 1 ns $end\n" ++ (codes "$scope module xif $end\n" ++ (flat_map (var_line p) (wires_of p)
+    codes "$timescale 1 ns $end\n" ++ (codes "$scope module xif $end\n"
+    ++ (flat_map (var_line p) (wires_of p)
     ++ (codes "$upscope $end\n" ++ codes "$enddefinitions $end\n")))
 
--- cycle c with its sample, behind a cycle with sample a: its changes stand at time 10c, and the clock rises at 10c + 5
+-- cycle c with its sample, behind a cycle with sample a: its changes stand at time 10c, and the
+-- clock rises at 10c + 5
 abbrev pub cycle_text : Params → ℕ → Option (List Quad) → List Quad → List ℕ
 cycle_text p c a b =
     time_line (10 * c) ++ (clock_line 0 ++ (flat_map (changed_line p a b) (data_wires_of p)
@@ -95,7 +97,8 @@ end_text c = time_line (10 * c) ++ clock_line 0
 -- the cycles from cycle c on, behind a cycle with sample a, and the end
 abbrev pub cycles_text : Params → ℕ → Option (List Quad) → List Bus → List ℕ
 cycles_text p c a [] = end_text c
-cycles_text p c a (b ∷ bs) = cycle_text p c a (sample_of b) ++ cycles_text p (c + 1) (Some (sample_of b)) bs
+cycles_text p c a (b ∷ bs) =
+    cycle_text p c a (sample_of b) ++ cycles_text p (c + 1) (Some (sample_of b)) bs
 
 -- the text of a list of buses, the first cycle first
 abbrev pub vcd_text_of : Params → List Bus → List ℕ
@@ -107,7 +110,8 @@ vcd_text_of p buses = header_text p ++ cycles_text p 0 None buses
 abbrev pub variables_from : Params → ℕ → List Signal → List Variable
 variables_from p k [] = []
 variables_from p k (s ∷ ss) =
-    record { name = codes "xif." ++ name_of s; code = k; size = width_of s p } ∷ variables_from p (k + 1) ss
+    record { name = codes "xif." ++ name_of s; code = k; size = width_of s p }
+    ∷ variables_from p (k + 1) ss
 
 abbrev pub written_variables : Params → List Variable
 written_variables p = variables_from p 0 (wires_of p)
@@ -123,7 +127,8 @@ bits n = if n == 0 then Zero ∷ [] else map bit_digit (digits_of 2 n)
 abbrev pub change_items : Option (List Quad) → List Quad → ℕ → List Signal → List Item
 change_items a b k [] = []
 change_items a b k (s ∷ ss) =
-    (if is_same a b s then [] else Change k (bits (value_in b s)) ∷ []) ++ change_items a b (k + 1) ss
+    (if is_same a b s then [] else Change k (bits (value_in b s)) ∷ [])
+    ++ change_items a b (k + 1) ss
 
 abbrev pub cycle_items : Params → ℕ → Option (List Quad) → List Quad → List Item
 cycle_items p c a b =
@@ -132,7 +137,8 @@ cycle_items p c a b =
 
 abbrev pub cycles_items : Params → ℕ → Option (List Quad) → List Bus → List Item
 cycles_items p c a [] = Time (10 * c) ∷ Change 0 (bits 0) ∷ []
-cycles_items p c a (b ∷ bs) = cycle_items p c a (sample_of b) ++ cycles_items p (c + 1) (Some (sample_of b)) bs
+cycles_items p c a (b ∷ bs) =
+    cycle_items p c a (sample_of b) ++ cycles_items p (c + 1) (Some (sample_of b)) bs
 
 abbrev pub written_items : Params → List Bus → List Item
 written_items p buses = cycles_items p 0 None buses

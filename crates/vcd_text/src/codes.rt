@@ -7,8 +7,8 @@ use std::alloc::Global;
 use std::marker::Model;
 use xif_base::NoMemory;
 
-/// The codes that are declared, each with its size in bits, by first declaration. The number of a code is
-/// its place among them.
+/// The codes that are declared, each with its size in bits, by first declaration. The number of a
+/// code is its place among them.
 #[derive(Drop)]
 pub struct Codes {
     sizes: IndexMap<Vec<u8>, u32>,
@@ -57,7 +57,8 @@ impl Codes {
     pub fn push(&mut self, alloc: Global, text: &[u8], size: u32) -> Result<(), NoMemory>
         requires room { length self.old < 2 ^ 32 }
         requires new { code_from 0 text.now self.old ≡ None }
-        ensures ok { OnOk result (self.new ≡ self.old ++ record { text = text.now; size = size } ∷ []) }
+        ensures ok { OnOk result
+            (self.new ≡ self.old ++ record { text = text.now; size = size } ∷ []) }
         ensures err { OnErr result (self.new ≡ self.old) }
     {
         self.sizes.insert(Vec::from_slice(alloc, text)?, size)?;

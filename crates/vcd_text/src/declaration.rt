@@ -8,7 +8,8 @@ use xif_base::{Name, NoMemory};
 /// A variable of a waveform (IEEE 1364-2005, 18.2.3, `$var`).
 #[derive(Debug, Drop)]
 pub struct Variable {
-    /// Its full name: the scopes that it stands in, the outermost first, and its own name, joined by full stops.
+    /// Its full name: the scopes that it stands in, the outermost first, and its own name, joined
+    /// by full stops.
     pub name: Name,
     /// The number of its identifier code: its place among the distinct codes, by first declaration.
     pub code: u32,

@@ -4,13 +4,14 @@ use xif_base::NoMemory;
 /// What is wrong with a text.
 #[derive(Clone, Copy, Debug, PartialEq, Eq)]
 pub enum VcdCause {
-    /// A token that begins nothing which may stand there; a `$scope` without a name, with a name that is not UTF-8, or
-    /// past 64 open scopes; or an `$upscope` where no scope is open.
+    /// A token that begins nothing which may stand there; a `$scope` without a name, with a name
+    /// that is not UTF-8, or past 64 open scopes; or an `$upscope` where no scope is open.
     BadToken = 1,
     /// The text ends in a block, or before the second token of a change.
     OpenBlock,
-    /// A `$var` without type, size, code and name, with a name that is not UTF-8, a size that is not decimal or is past
-    /// 1,048,576 bits, or a code that is not 1 to 64 characters from `!` to `~`.
+    /// A `$var` without type, size, code and name, with a name that is not UTF-8, a size that is
+    /// not decimal or is past 1,048,576 bits, or a code that is not 1 to 64 characters from `!` to
+    /// `~`.
     BadVar,
     /// A `$var` of a code that was declared with another size.
     SizeDiffers,

@@ -5,9 +5,10 @@ ghost use Rattle.vcd_text.specs.Phrases.{PlacedPhrase, IsRowOf, FailsBehind};
 ghost use Rattle.vcd_text.specs.Reading.{Reading, read_so_far, reading_of};
 ghost use Rattle.vcd_text.specs.Sizes.{IsWellFormed};
 
-/// Texts are read by the grammar of IEEE 1364-2005, clause 18. A text has a reading if and only if its tokens
-/// are a row of well-formed phrases, `$enddefinitions` among them, that say it; and it has a fault if and only
-/// if that is the fault of what follows the well-formed phrases at its front.
+/// Texts are read by the grammar of IEEE 1364-2005, clause 18. A text has a reading if and only if
+/// its tokens are a row of well-formed phrases, `$enddefinitions` among them, that say it; and it
+/// has a fault if and only if that is the fault of what follows the well-formed phrases at its
+/// front.
 pub fn grammar_law()
     ensures reading { (text : List ℕ) (r : Reading) →
         (reading_of text ≡ Ok r) ↔ ((row : List PlacedPhrase) × IsRowOf text row r) }
@@ -21,7 +22,8 @@ pub fn fault_law()
         (read_so_far text).state ≡ Err f → reading_of (text ++ more) ≡ Err f }
 {}
 
-/// In a reading the variables of one code are of one size, each change fits its code, and times don't fall.
+/// In a reading the variables of one code are of one size, each change fits its code, and times
+/// don't fall.
 pub fn reading_law()
     ensures { (text : List ℕ) (r : Reading) → reading_of text ≡ Ok r → IsWellFormed r }
 {}

@@ -2,6 +2,7 @@
 ghost use Rattle.std.specs.Prelude.{◌≡◌, ◌<◌, ◌≤◌, ◌+◌, ◌^◌, ◌++◌, ◌∷◌, [], map, OnOk};
 ghost use Rattle.std.specs.Int.Digits.{digits_of};
 ghost use Rattle.xif_base.specs.Params.{IsInRange};
+ghost use Rattle.vcd_text.specs.Words.{zero_digit};
 ghost use Rattle.vcd_text.specs.Written.{numeral, var_line, time_line, clock_line, change_line};
 
 use xif_base::{NoMemory, Params};
@@ -76,7 +77,8 @@ fn put_numeral(text: &mut Vec<u8>, base: u64, n: u64) -> Result<(), NoMemory>
 fn put_digits(text: &mut Vec<u8>, base: u64, n: u64) -> Result<(), NoMemory>
     requires low { 2 ≤ base }
     requires high { base ≤ 10 }
-    ensures { OnOk result (text.new.items ≡ text.old.items ++ map (λ d. 48 + d) (digits_of base n)) }
+    ensures { OnOk result
+        (text.new.items ≡ text.old.items ++ map (λ d. zero_digit + d) (digits_of base n)) }
 {
     if n > 0 {
         put_digits(text, base, n / base)?;

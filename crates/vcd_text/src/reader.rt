@@ -47,8 +47,9 @@ impl Reader {
         }
     }
 
-    /// Takes the next piece of the text in. The fault is that of the tokens which are complete by then; once it is
-    /// reported, every later call reports it. Once a call ran out of memory, every later call says so.
+    /// Takes the next piece of the text in. The fault is that of the tokens which are complete by
+    /// then; once it is reported, every later call reports it. Once a call ran out of memory, every
+    /// later call says so.
     pub fn feed(&mut self, piece: &[u8]) -> Result<(), FeedFail>
         requires not_closed { self.old.is_closed ≡ false }
         requires room { self.old.has_failed ≡ false → self.old.size + length piece.now < 2 ^ 32 }
@@ -129,7 +130,8 @@ impl Reader {
 
     /// The next item that was read and not taken.
     pub fn take(&mut self) -> Option<Item>
-        ensures item { result ≡ (if self.old.has_failed then None else slice_get self.old.read.items 0) }
+        ensures item { result
+            ≡ (if self.old.has_failed then None else slice_get self.old.read.items 0) }
         ensures rest { self.new ≡ after_take self.old }
         ensures represents { (text : List ℕ) (taken : List Item) → Represents self.old text taken →
             MatchOption result (Represents self.new text taken)

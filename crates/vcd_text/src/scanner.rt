@@ -207,7 +207,8 @@ impl Scanner {
         ensures codes { OnOk result
             (length self.new.state.codes ≤ length self.old.state.codes + length token.now) }
         ensures read { OnOk result ((taken : List Item) →
-            read_by self.new taken ≡ fold go (read_by self.old taken) (token_before end token.now)) }
+            read_by self.new taken
+            ≡ fold go (read_by self.old taken) (token_before end token.now)) }
     {
         if token.is_empty() {
             return Ok(());

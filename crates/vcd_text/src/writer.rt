@@ -18,8 +18,8 @@ use xif_signals::{Bus, Sample, Signal};
 /// How many bytes are reserved for the piece of a cycle, enough for all but the largest.
 const CYCLE_CAPACITY: usize = 512;
 
-/// Writes the text of a list of buses in pieces: the header, one piece a cycle, and the end. Cycle c is at time
-/// 10c, and the clock rises at 10c + 5.
+/// Writes the text of a list of buses in pieces: the header, one piece a cycle, and the end. Cycle
+/// c is at time 10c, and the clock rises at 10c + 5.
 #[derive(Debug, Drop)]
 pub struct Writer {
     params: Params,
@@ -179,7 +179,8 @@ fn put_changed(
     requires params { IsInRange params.now }
     requires fits { Fits params.now sample.now }
     requires signal { signal ≢ Clk }
-    ensures { OnOk result (text.new.items ≡ text.old.items ++ (if nat_lt 0 (width_of signal params.now)
+    ensures { OnOk result (text.new.items
+        ≡ text.old.items ++ (if nat_lt 0 (width_of signal params.now)
         then changed_line params.now (option_copied last.entry) sample.now signal else [])) }
 {
     let width = signal.width(params);
