@@ -8,7 +8,7 @@ use Rattle.vcd_text.specs.declared.scanner.Scanner.{Scanner}
 use Rattle.vcd_text.specs.Words.{is_white, is_ink}
 use Rattle.vcd_text.specs.Tokens.{Token, rest, complete, token_before}
 use Rattle.vcd_text.specs.Reading.{Read, go, read_so_far}
-use Rattle.vcd_text.specs.Scanner.{Follows, Steps, TakesToken, outcome, read_by}
+use Rattle.vcd_text.specs.Scanner.{Represents, Steps, TakesToken, outcome, read_by}
 use Rattle.vcd_text.proofs.Texts.{rest-append, read_so_far-append, faulty_front}
 
 -- what one more byte completes
@@ -30,7 +30,12 @@ read_so_far-push text b =
     ∙ ap (fold go (read_so_far text)) (complete-push (rest [] text) (length text) b (is_white b) refl)
     ∙ fold-cond (read_so_far text) (is_white b) (token_before (length text) (rest [] text))
 
-pub follows-push : (old new : Scanner) (b : ℕ) (text : List ℕ) (taken : List Item) → old.fault ≡ None → Steps old new b → Follows old text taken → Follows new (text ++ b ∷ []) taken
+-- where there is no fault there is none
+pub none-left : (o : Option VcdFault) → ((f : VcdFault) → o ≡ Some f → ⊥) → o ≡ None
+none-left None h = refl
+none-left (Some f) h = absurd (h f refl)
+
+pub follows-push : (old new : Scanner) (b : ℕ) (text : List ℕ) (taken : List Item) → old.fault ≡ None → Steps old new b → Represents old text taken → Represents new (text ++ b ∷ []) taken
 follows-push old new b text taken none s h =
     let size : old.size ≡ length text = h.size none in
     let run : old.run.items ≡ rest [] text = h.run none in
@@ -46,11 +51,11 @@ follows-push old new b text taken none s h =
     }
 
 -- what a scanner says of the text so far
-pub state-is : (s : Scanner) (text : List ℕ) (taken : List Item) (o : Option VcdFault) → s.fault ≡ o → Follows s text taken → (read_so_far text).state ≡ outcome s.state o
+pub state-is : (s : Scanner) (text : List ℕ) (taken : List Item) (o : Option VcdFault) → s.fault ≡ o → Represents s text taken → (read_so_far text).state ≡ outcome s.state o
 state-is s text taken o e h = sym (ap (λ (x : Read). x.state) h.read) ∙ ap (outcome s.state) e
 
 -- behind a fault nothing changes
-pub follows-faulty : (s : Scanner) (f : VcdFault) (text more : List ℕ) (taken : List Item) → s.fault ≡ Some f → Follows s text taken → Follows s (text ++ more) taken
+pub follows-faulty : (s : Scanner) (f : VcdFault) (text more : List ℕ) (taken : List Item) → s.fault ≡ Some f → Represents s text taken → Represents s (text ++ more) taken
 follows-faulty s f text more taken e h =
     let none : Option VcdFault = None in
     record {
@@ -81,7 +86,7 @@ read_so_far-ink text word h = read_so_far-append text word ∙ ap (fold go (read
 
 pub follows-word : (old new : Scanner) (text word : List ℕ) (taken : List Item) → old.fault ≡ None → list_all is_ink word ≡ true
     → new.size ≡ old.size + length word → new.run.items ≡ old.run.items ++ word → read_by new taken ≡ read_by old taken
-    → Follows old text taken → Follows new (text ++ word) taken
+    → Represents old text taken → Represents new (text ++ word) taken
 follows-word old new text word taken none ink size run read h = record {
   read = read ∙ h.read ∙ sym (read_so_far-ink text word ink);
   size = λ _. omega (arith, size, h.size none, length-append text word);
@@ -89,7 +94,7 @@ follows-word old new text word taken none ink size run read h = record {
 }
 
 pub follows-token : (old new : Scanner) (b : ℕ) (text token : List ℕ) (taken : List Item) → old.fault ≡ None → old.run.items ≡ [] → list_all is_ink token ≡ true → is_white b ≡ true
-    → TakesToken old new token → Follows old text taken → Follows new (text ++ token ++ b ∷ []) taken
+    → TakesToken old new token → Represents old text taken → Represents new (text ++ token ++ b ∷ []) taken
 follows-token old new b text token taken none empty ink white s h =
     let size : old.size + length token ≡ length (text ++ token) = omega (arith, h.size none, length-append text token) in
     let run : token ≡ rest [] (text ++ token) =

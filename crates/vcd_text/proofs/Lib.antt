@@ -15,3 +15,7 @@ pub mod Table
 pub mod SaidHeader
 pub mod SaidBody
 pub mod ReadsBack
+pub mod PhraseSteps
+pub mod PhraseReads
+pub mod PhraseRows
+pub mod PhraseSplit

@@ -17,7 +17,7 @@ use Rattle.vcd_text.specs.declared.declaration.Variable.{Variable}
 use Rattle.vcd_text.specs.Words.{is_end, is_code}
 use Rattle.vcd_text.specs.Codes.{Code, code_from}
 use Rattle.vcd_text.specs.Grammar.{goes, block, with_part, kept, var_sized, var_at}
-use Rattle.vcd_text.specs.Written.{numeral, word, last, var_line, header_text, wires_of, variables_from}
+use Rattle.vcd_text.specs.Written.{numeral, with_space, with_line_end, var_line, header_text, wires_of, variables_from}
 use Rattle.vcd_text.proofs.Says.{Says, said, says-then, says-to, says-word, says-nothing}
 use Rattle.vcd_text.proofs.Numerals.{numeral_word, number_numeral, some_digits}
 use Rattle.vcd_text.proofs.SaidLines.{in_body}
@@ -77,7 +77,7 @@ abbrev in_var : State → ℕ → List (List ℕ) → State
 in_var s at words = with_part s (Block at Var words)
 
 -- a further word of a block
-says-more : (at n : ℕ) (s : State) (words : List (List ℕ)) (w : List ℕ) → IsPlain w → Says n (in_var s at words) (word w) (in_var s at (kept words w)) []
+says-more : (at n : ℕ) (s : State) (words : List (List ℕ)) (w : List ℕ) → IsPlain w → Says n (in_var s at words) (with_space w) (in_var s at (kept words w)) []
 says-more at n s words w h =
     says-word n (in_var s at words) (in_var s at (kept words w)) w 32 None h.word refl
     (ap (λ x. cond x (block (with_part s Nothing) at Var words) (goes (in_var s at (kept words w)))) h.ends)
@@ -107,12 +107,12 @@ says-var p at cs vs k sig h l e =
     let t = declared_as p k sig cs vs in
     let d = is_declarable_lem sig in
     let w = width_of sig p in
-    let one = word (codes "$var") in
-    let two = word (codes "wire") in
-    let three = word (numeral 10 w) in
-    let four = word (code_of sig) in
-    let five = word (name_of sig) in
-    let six = last (codes "$end") in
+    let one = with_space (codes "$var") in
+    let two = with_space (codes "wire") in
+    let three = with_space (numeral 10 w) in
+    let four = with_space (code_of sig) in
+    let five = with_space (name_of sig) in
+    let six = with_line_end (codes "$end") in
     let n1 = at + length one in
     let n2 = n1 + length two in
     let n3 = n2 + length three in

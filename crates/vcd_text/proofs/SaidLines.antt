@@ -11,7 +11,7 @@ use Rattle.vcd_text.specs.declared.item.Item.TheVariants.{Time, Change}
 use Rattle.vcd_text.specs.declared.state.State.{State}
 use Rattle.vcd_text.specs.Codes.{Code, code_from}
 use Rattle.vcd_text.specs.Grammar.{time_of, change_of, vector, goes, with_part}
-use Rattle.vcd_text.specs.Written.{numeral, time_line, change_line, word, last, bits}
+use Rattle.vcd_text.specs.Written.{numeral, time_line, change_line, with_space, with_line_end, bits}
 use Rattle.vcd_text.proofs.Says.{Says, says-then, says-word, word-cons, word-one}
 use Rattle.vcd_text.proofs.Numerals.{numeral_word, number_numeral, digits_numeral, some_bits, length_bits}
 
@@ -35,7 +35,7 @@ module _ (cs : List Code) (vs : List Variable) where
       (ap (time_of (in_body cs vs u) at) (number_numeral t k) ∙ time_is (in_body cs vs u) at t h)
 
   -- a digit and a code of one character
-  pub says-digit : (at t b k v : ℕ) → 33 ≤ b → code_from 0 (b ∷ []) cs ≡ Some (k, 1) → v < 2 → Says at (in_body cs vs t) (last ((48 + v) ∷ b ∷ [])) (in_body cs vs t) (Change k (bits v) ∷ [])
+  pub says-digit : (at t b k v : ℕ) → 33 ≤ b → code_from 0 (b ∷ []) cs ≡ Some (k, 1) → v < 2 → Says at (in_body cs vs t) (with_line_end ((48 + v) ∷ b ∷ [])) (in_body cs vs t) (Change k (bits v) ∷ [])
   says-digit at t b k zero l e h =
       let s = in_body cs vs t in
       says-word at s s (48 ∷ b ∷ []) 10 (Some (Change k (bits 0))) (word-cons 48 (b ∷ []) (lit≤ tt) (word-one b l)) refl
@@ -51,12 +51,12 @@ vector_is s at [] h = absurd (omega arith)
 vector_is s at (d ∷ ds) h = refl
 
 module _ (cs : List Code) (vs : List Variable) where
-  says-vector : (at t b k w v : ℕ) → 33 ≤ b → code_from 0 (b ∷ []) cs ≡ Some (k, w) → 0 < w → v < 2 ^ w → Says at (in_body cs vs t) (word (98 ∷ numeral 2 v) ++ last (b ∷ [])) (in_body cs vs t) (Change k (bits v) ∷ [])
+  says-vector : (at t b k w v : ℕ) → 33 ≤ b → code_from 0 (b ∷ []) cs ≡ Some (k, w) → 0 < w → v < 2 ^ w → Says at (in_body cs vs t) (with_space (98 ∷ numeral 2 v) ++ with_line_end (b ∷ [])) (in_body cs vs t) (Change k (bits v) ∷ [])
   says-vector at t b k w v l e h f =
       let s = in_body cs vs t in
       let m : State = with_part s (Vector at (bits v)) in
-      let n = at + length (word (98 ∷ numeral 2 v)) in
-      says-then at s m s (word (98 ∷ numeral 2 v)) (last (b ∷ [])) [] (Change k (bits v) ∷ [])
+      let n = at + length (with_space (98 ∷ numeral 2 v)) in
+      says-then at s m s (with_space (98 ∷ numeral 2 v)) (with_line_end (b ∷ [])) [] (Change k (bits v) ∷ [])
       (says-word at s m (98 ∷ numeral 2 v) 32 None (word-cons 98 (numeral 2 v) (lit≤ tt) (numeral_word 2 v (lit≤ tt))) refl
       (ap (vector s at) (digits_numeral v) ∙ vector_is s at (bits v) (some_bits v)))
       (says-word n m s (b ∷ []) 10 (Some (Change k (bits v))) (word-one b l) refl

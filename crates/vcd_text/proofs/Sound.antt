@@ -1,6 +1,6 @@
 -- What is read fits what was declared.
 use Rattle.std.proofs.Common.{◌≡◌, ◌≤◌, ◌+◌, ◌==◌, ℕ, suc, zero, Bool, true, false, cond, nat_le, List, [], ◌∷◌, ◌++◌, length, get_or, refl, sym, ap, ◌∙◌, subst, arith, Option, None, Some, Ok, Err, true≢false, le_refl, lit≤}
-use Rattle.std.specs.Prelude.{IsSomeAnd, IfSome, nat_lt, ◌&&◌, ◌||◌}
+use Rattle.std.specs.Prelude.{IsSomeAnd, IfSome, nat_lt, ◌&&◌, codes}
 use Rattle.std.specs.Option.{option_map}
 use Rattle.std.specs.Str.{bytes_eq, is_utf8}
 use Rattle.std.proofs.lemmas.List.Elements.{All-push}
@@ -16,10 +16,10 @@ use Rattle.vcd_text.specs.declared.keyword.Keyword.TheVariants.{Scope, Upscope, 
 use Rattle.vcd_text.specs.declared.state.Part.{Part}
 use Rattle.vcd_text.specs.declared.state.Part.TheVariants.{Nothing, Block, Skipped, Vector, Passed}
 use Rattle.vcd_text.specs.declared.state.State.{State}
-use Rattle.vcd_text.specs.Codes.{Code, code_from}
+use Rattle.vcd_text.specs.Codes.{Code, code_from, full_name}
 use Rattle.vcd_text.specs.Tokens.{Token}
-use Rattle.vcd_text.specs.Words.{number, digit, digits, keyword, is_command, is_end, is_code}
-use Rattle.vcd_text.specs.Grammar.{Step, goes, with_part, change_of, change, time_of, scalar, vector, command, body, var_at, var_sized, var, scope, upscope, block, opened, kept, declared, full_name, in_part, step}
+use Rattle.vcd_text.specs.Words.{number_sign, dollar_sign, is_one_of, number, digit, digits, keyword, is_command, is_end, is_code}
+use Rattle.vcd_text.specs.Grammar.{Step, goes, with_part, change_of, change, time_of, scalar, vector, command, body, var_at, var_sized, var, scope, upscope, block, opened, kept, declared, in_part, step}
 use Rattle.vcd_text.specs.Sizes.{size_of, AreConsistent, FitsDeclared}
 use Rattle.vcd_text.specs.Sound.{size_at, IsPlaced, IsSound}
 
@@ -249,10 +249,10 @@ command-goes s at Other h = goes_with s (Skipped at) h tt
 body-goes : (s : State) (at : ℕ) (text : List ℕ) → IsSound s → s.is_declared ≡ true → GoesOn s (body s at text)
 body-goes s at [] h ready = tt
 body-goes s at (b ∷ bs) h ready =
-    goes_if s (b == 35) _ _ (λ _. time_of-goes s at (number bs) h ready) (λ _.
-    goes_if s ((b == 98) || (b == 66)) _ _ (λ _. vector-goes s at (digits bs) h ready) (λ _.
-    goes_if s (((b == 114) || (b == 82)) || ((b == 115) || (b == 83))) _ _ (λ _. goes_with s (Passed at) h tt) (λ _.
-    goes_if s (b == 36) _ _ (λ _. command-goes s at (keyword (b ∷ bs)) h) (λ _. scalar-goes s at (digit b) bs h ready))))
+    goes_if s (b == number_sign) _ _ (λ _. time_of-goes s at (number bs) h ready) (λ _.
+    goes_if s (is_one_of (codes "bB") b) _ _ (λ _. vector-goes s at (digits bs) h ready) (λ _.
+    goes_if s (is_one_of (codes "rRsS") b) _ _ (λ _. goes_with s (Passed at) h tt) (λ _.
+    goes_if s (b == dollar_sign) _ _ (λ _. command-goes s at (keyword (b ∷ bs)) h) (λ _. scalar-goes s at (digit b) bs h ready))))
 
 -- ---- one token
 

@@ -11,15 +11,16 @@ use Rattle.vcd_text.specs.declared.state.Part.TheVariants.{Nothing, Block, Skipp
 use Rattle.vcd_text.specs.declared.state.State.{State}
 use Rattle.vcd_text.specs.Tokens.{token_before}
 use Rattle.vcd_text.specs.Reading.{Read, go, read_so_far, read_whole, reading_of, reading_by, declared_by, ends, fault_in, fault_at_end}
-use Rattle.vcd_text.specs.Reader.{Progress, Stands}
-use Rattle.vcd_text.specs.Scanner.{Follows, outcome, read_by, progress_of}
+use Rattle.vcd_text.specs.Reader.{Progress, Represents}
+use Rattle.vcd_text.specs.Scanner as scanner
+use Rattle.vcd_text.specs.Scanner.{outcome, read_by, progress_of}
 use Rattle.vcd_text.proofs.Texts.{faulty_front}
 use Rattle.vcd_text.proofs.Following.{read_so_far-push}
 
 is_sound : (s : State) (o : Option VcdFault) → o ≡ None → IsOk (outcome s o)
 is_sound s o e = rw e refl
 
-pub follows-from_stands : (s : Scanner) (has_failed is_closed : Bool) (text : List ℕ) (taken : List Item) → Stands (progress_of s has_failed is_closed) text taken → Follows s text taken
+pub follows-from_stands : (s : Scanner) (has_failed is_closed : Bool) (text : List ℕ) (taken : List Item) → Represents (progress_of s has_failed is_closed) text taken → scanner.Represents s text taken
 follows-from_stands s has_failed is_closed text taken h = record {
   read = h.read;
   size = λ none. (h.run (is_sound s.state s.fault none)).size;
@@ -31,8 +32,8 @@ not_ok (Ok s) f e ok = cc
 not_ok (Err g) f e ok = absurd (true≢false (sym ok))
 
 -- behind a fault nothing changes
-pub stands-faulty : (p : Progress) (f : VcdFault) (text more : List ℕ) (taken : List Item) → p.read.state ≡ Err f → Stands p text taken
-    → Stands p (text ++ more) taken × ((read_so_far (text ++ more)).state ≡ Err f)
+pub stands-faulty : (p : Progress) (f : VcdFault) (text more : List ℕ) (taken : List Item) → p.read.state ≡ Err f → Represents p text taken
+    → Represents p (text ++ more) taken × ((read_so_far (text ++ more)).state ≡ Err f)
 stands-faulty p f text more taken e h =
     let fault : (read_so_far text).state ≡ Err f = sym (ap (λ (r : Read). r.state) h.read) ∙ e in
     let same : read_so_far (text ++ more) ≡ read_so_far text = faulty_front text more f fault in (
@@ -44,14 +45,14 @@ stands-faulty p f text more taken e h =
       ap (λ (r : Read). r.state) same ∙ fault,
     )
 
-pub closed-faulty : (p : Progress) (f : VcdFault) (text : List ℕ) (taken : List Item) → p.read.state ≡ Err f → Stands p text taken
+pub closed-faulty : (p : Progress) (f : VcdFault) (text : List ℕ) (taken : List Item) → p.read.state ≡ Err f → Represents p text taken
     → (reading_of text ≡ Err f) × (taken ++ p.read.items ≡ (read_whole text).items)
 closed-faulty p f text taken e h =
     let more = stands-faulty p f text (32 ∷ []) taken e h in
     (ap (λ s. ends (read_whole text).items s (length text)) more.1, ap (λ (r : Read). r.items) more.0.read)
 
 -- the end of the text completes the token that is open
-pub whole-is : (old new : Scanner) (text : List ℕ) (taken : List Item) → old.fault ≡ None → Follows old text taken
+pub whole-is : (old new : Scanner) (text : List ℕ) (taken : List Item) → old.fault ≡ None → scanner.Represents old text taken
     → read_by new taken ≡ fold go (read_by old taken) (token_before old.size old.run.items)
     → read_by new taken ≡ read_whole text
 whole-is old new text taken none h e =

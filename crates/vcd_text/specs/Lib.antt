@@ -3,6 +3,7 @@ pub mod Tokens
 pub mod Codes
 pub mod Grammar
 pub mod Reading
+pub mod Phrases
 pub mod Reader
 pub mod Scanner
 pub mod Sizes

@@ -1,5 +1,5 @@
 -- What the tokens of a text say together, and what a whole text says.
-use Rattle.std.specs.Prelude.{ℕ, Bool, false, cond, List, [], ◌++◌, length, Option, Some, None, Result, Ok, Err}
+use Rattle.std.specs.Prelude.{ℕ, Bool, false, if◌then◌else◌, List, [], ◌++◌, length, Option, Some, None, Result, Ok, Err}
 use Rattle.std.specs.List.{fold}
 use Rattle.std.specs.Option.{option_to_list}
 use Rattle.vcd_text.specs.declared.declaration.Variable.{Variable}
@@ -20,10 +20,11 @@ pub record Read : Type 0 where
 
 -- the variables of a state whose declarations are complete
 abbrev pub declared_by : State → Option (List Variable)
-declared_by s = cond s.is_declared (Some s.variables) None
+declared_by s = if s.is_declared then Some s.variables else None
 
 abbrev pub moved : Read → Step → Read
-moved r (Ok x) = record { items = r.items ++ option_to_list x.1; variables = declared_by x.0; state = Ok x.0 }
+moved r (Ok x) =
+    record { items = r.items ++ option_to_list x.1; variables = declared_by x.0; state = Ok x.0 }
 moved r (Err f) = record r { state = Err f }
 
 -- the next token is read, where there is no fault before it
@@ -40,15 +41,25 @@ from s = record { items = []; variables = declared_by s; state = Ok s }
 
 -- where a text begins
 abbrev pub start : State
-start = record { scopes = []; codes = []; variables = []; is_declared = false; time = 0; part = Nothing }
+start =
+    record {
+      scopes = [];
+      codes = [];
+      variables = [];
+      is_declared = false;
+      time = 0;
+      part = Nothing;
+    }
 
 -- what the complete tokens of a text so far say
 abbrev pub read_so_far : List ℕ → Read
 read_so_far text = fold go (from start) (complete [] 0 text)
 
--- the fault of a text that ends at an offset: what is open, or the declarations that aren't complete
+-- the fault of a text that ends at an offset: what is open, or the declarations that aren't
+-- complete
 abbrev pub fault_in : Part → Bool → ℕ → Option VcdFault
-fault_in Nothing is_declared end = cond is_declared None (Some (record { at = end; cause = NoDefinitionsEnd }))
+fault_in Nothing is_declared end =
+    if is_declared then None else Some (record { at = end; cause = NoDefinitionsEnd })
 fault_in (Block at k words) is_declared end = Some (record { at = at; cause = OpenBlock })
 fault_in (Skipped at) is_declared end = Some (record { at = at; cause = OpenBlock })
 fault_in (Vector at ds) is_declared end = Some (record { at = at; cause = OpenBlock })

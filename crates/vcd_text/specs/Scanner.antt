@@ -1,5 +1,6 @@
--- For which text a scanner stands.
-use Rattle.std.specs.Prelude.{◌≡◌, ◌+◌, ◌≤◌, ℕ, Bool, cond, List, [], ◌∷◌, ◌++◌, length, Option, Some, None, Result, Ok, Err}
+-- Internal: what the contracts of private functions cite; nothing here has to be believed. Which
+-- text a scanner represents.
+use Rattle.std.specs.Prelude.{◌≡◌, ◌+◌, ◌≤◌, ℕ, Bool, if◌then◌else◌, List, [], ◌∷◌, ◌++◌, length, Option, Some, None, Result, Ok, Err}
 use Rattle.std.specs.List.{fold}
 use Rattle.vcd_text.specs.declared.fault.VcdFault.{VcdFault}
 use Rattle.vcd_text.specs.declared.item.Item.{Item}
@@ -16,10 +17,15 @@ outcome s (Some f) = Err f
 
 -- what a scanner read, behind these items
 abbrev pub read_by : Scanner → List Item → Read
-read_by s taken = record { items = taken ++ s.items.items; variables = declared_by s.state; state = outcome s.state s.fault }
+read_by s taken =
+    record {
+      items = taken ++ s.items.items;
+      variables = declared_by s.state;
+      state = outcome s.state s.fault;
+    }
 
 -- the scanner took in this text, and these items were taken from it
-pub record Follows (s : Scanner) (text : List ℕ) (taken : List Item) : Type 0 where
+pub record Represents (s : Scanner) (text : List ℕ) (taken : List Item) : Type 0 where
   pub read : read_by s taken ≡ read_so_far text
   pub size : s.fault ≡ None → s.size ≡ length text
   pub run : s.fault ≡ None → s.run.items ≡ rest [] text
@@ -27,14 +33,17 @@ pub record Follows (s : Scanner) (text : List ℕ) (taken : List Item) : Type 0 
 -- what a byte does where there is no fault before it
 pub record Steps (old new : Scanner) (b : ℕ) : Type 0 where
   pub size : new.size ≡ old.size + 1
-  pub run : new.run.items ≡ cond (is_white b) [] (old.run.items ++ b ∷ [])
-  pub read : (taken : List Item) → read_by new taken ≡ cond (is_white b) (fold go (read_by old taken) (token_before old.size old.run.items)) (read_by old taken)
+  pub run : new.run.items ≡ (if is_white b then [] else old.run.items ++ b ∷ [])
+  pub read : (taken : List Item) → read_by new taken ≡ (if is_white b
+      then fold go (read_by old taken) (token_before old.size old.run.items) else read_by old taken)
 
--- what a token and white space behind it do, where no token is open and there is no fault before them
+-- what a token and white space behind it do, where no token is open and there is no fault before
+-- them
 pub record TakesToken (old new : Scanner) (token : List ℕ) : Type 0 where
   pub size : new.size ≡ old.size + length token + 1
   pub run : new.run.items ≡ []
-  pub read : (taken : List Item) → read_by new taken ≡ fold go (read_by old taken) (token_before (old.size + length token) token)
+  pub read : (taken : List Item) →
+      read_by new taken ≡ fold go (read_by old taken) (token_before (old.size + length token) token)
 
 -- each code took a byte at least, and so does the token that is open
 abbrev pub HasRoom : Scanner → Type 0
@@ -42,4 +51,11 @@ HasRoom s = length s.state.codes + length s.run.items ≤ s.size
 
 -- what a reader over a scanner holds
 abbrev pub progress_of : Scanner → Bool → Bool → Progress
-progress_of s has_failed is_closed = record { size = s.size; run = s.run.items; read = read_by s []; has_failed = has_failed; is_closed = is_closed }
+progress_of s has_failed is_closed =
+    record {
+      size = s.size;
+      run = s.run.items;
+      read = read_by s [];
+      has_failed = has_failed;
+      is_closed = is_closed;
+    }

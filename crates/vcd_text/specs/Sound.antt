@@ -1,4 +1,5 @@
--- What holds of every state, and of all that was read.
+-- Internal: what the contracts of private functions cite; nothing here has to be believed. What
+-- holds of every state, and of all that was read.
 use Rattle.std.specs.Prelude.{◌≡◌, ◌≤◌, ◌<◌, ◌^◌, ℕ, Bool, true, false, List, [], length, slice_get, Option, Some, None, Ok, All}
 use Rattle.std.specs.Option.{option_map}
 use Rattle.vcd_text.specs.declared.declaration.Variable.{Variable}
@@ -15,7 +16,8 @@ use Rattle.vcd_text.specs.Sizes.{size_of, AreConsistent, FitsDeclared}
 abbrev pub size_at : List Code → ℕ → Option ℕ
 size_at cs number = option_map (λ c. c.size) (slice_get cs number)
 
--- a block that declares is open only among the declarations, and a vector has digits and is open only in the body
+-- a block that declares is open only among the declarations, and a vector has digits and is open
+-- only in the body
 abbrev pub IsPlaced : Part → Bool → Type 0
 IsPlaced Nothing is_declared = Unit {0}
 IsPlaced (Block at k words) is_declared = is_declared ≡ false
@@ -32,12 +34,14 @@ pub record IsSoundRead (r : Read) : Type 0 where
   pub state : (s : State) → r.state ≡ Ok s → IsSound s × (r.variables ≡ declared_by s)
   -- no item comes before the declarations are complete
   pub none : r.variables ≡ None → r.items ≡ []
-  pub some : (vs : List Variable) → r.variables ≡ Some vs → AreConsistent vs × All (FitsDeclared vs) r.items
+  pub some : (vs : List Variable) → r.variables ≡ Some vs →
+      AreConsistent vs × All (FitsDeclared vs) r.items
 
 -- more was read: what holds still holds, and what was declared stays
 pub record Onward (old new : Read) : Type 0 where
   pub sound : IsSoundRead old → IsSoundRead new
-  pub declared : IsSoundRead old → (vs : List Variable) → old.variables ≡ Some vs → new.variables ≡ Some vs
+  pub declared : IsSoundRead old → (vs : List Variable) → old.variables ≡ Some vs →
+      new.variables ≡ Some vs
 
 -- what holds of the scanner of a reader
 pub record IsKept (s : Scanner) (has_failed : Bool) : Type 0 where

@@ -1,4 +1,5 @@
--- What the code's step answers.
+-- Internal: what the contracts of private functions cite; nothing here has to be believed. What the
+-- code's step returns.
 use Rattle.std.specs.Prelude.{⊤, ◌≡◌, ◌≤◌, ◌+◌, length, Option, Result, Ok, Err}
 use Rattle.vcd_text.specs.declared.item.Item.{Item}
 use Rattle.vcd_text.specs.declared.state.State.{State}
@@ -12,8 +13,9 @@ pub record SameDeclared (old new : State) : Type 0 where
   pub variables : new.variables ≡ old.variables
   pub is_declared : new.is_declared ≡ old.is_declared
 
--- the state after an answer, which is what the definition gives but for want of memory
-abbrev pub Gives : State → State → Result (Option Item) Stop → Step → Type 0
-Gives old new (Ok item) given = (given ≡ Ok (new, item)) × (length new.codes ≤ length old.codes + 1)
-Gives old new (Err NoMemory) given = ⊤
-Gives old new (Err (Fault f)) given = (given ≡ Err f) × SameDeclared old new
+-- a step of the code, from one state to another, is the automaton's, unless it runs out of memory
+abbrev pub StepsTo : State → State → Result (Option Item) Stop → Step → Type 0
+StepsTo old new (Ok item) given =
+    (given ≡ Ok (new, item)) × (length new.codes ≤ length old.codes + 1)
+StepsTo old new (Err NoMemory) given = ⊤
+StepsTo old new (Err (Fault f)) given = (given ≡ Err f) × SameDeclared old new

@@ -1,6 +1,6 @@
 -- The tokens of a text: runs of bytes between white space, and where each begins.
-use Rattle.std.specs.Prelude.{ℕ, ◌+◌, ◌-◌, cond, List, [], ◌∷◌, ◌++◌, length}
-use Rattle.vcd_text.specs.Words.{is_white}
+use Rattle.std.specs.Prelude.{ℕ, ◌+◌, ◌-◌, if◌then◌else◌, List, [], ◌∷◌, ◌++◌, length}
+use Rattle.vcd_text.specs.Words.{is_white, space}
 
 -- a token, and its offset in bytes from the text's start
 pub record Token : Type 0 where
@@ -16,13 +16,14 @@ token_before at (b ∷ bs) = record { at = at - length (b ∷ bs); text = b ∷ 
 abbrev pub complete : List ℕ → ℕ → List ℕ → List Token
 complete run at [] = []
 complete run at (b ∷ bs) =
-    cond (is_white b) (token_before at run ++ complete [] (at + 1) bs) (complete (run ++ b ∷ []) (at + 1) bs)
+    if is_white b then token_before at run ++ complete [] (at + 1) bs
+    else complete (run ++ b ∷ []) (at + 1) bs
 
 -- the run that is open at the end
 abbrev pub rest : List ℕ → List ℕ → List ℕ
 rest run [] = run
-rest run (b ∷ bs) = cond (is_white b) (rest [] bs) (rest (run ++ b ∷ []) bs)
+rest run (b ∷ bs) = if is_white b then rest [] bs else rest (run ++ b ∷ []) bs
 
 -- the end of a text ends a token as white space does
 abbrev pub ended : List ℕ → List ℕ
-ended text = text ++ 32 ∷ []
+ended text = text ++ space ∷ []

@@ -18,11 +18,12 @@ pub record Progress : Type 0 where
 abbrev pub begun : Params → Progress
 begun p = record { params = p; cycles = 0; last = None }
 
--- The text so far is that of these buses, the first cycle first, without its end: whatever cycles follow, the
--- text of those completes it.
+-- The text so far is that of these buses, the first cycle first, without its end: whatever cycles
+-- follow, the text of those completes it.
 pub record Wrote (w : Progress) (buses : List Bus) (text : List ℕ) : Type 0 where
   pub count : w.cycles ≡ length buses
-  pub joined : (more : List Bus) → text ++ cycles_text w.params w.cycles w.last more ≡ vcd_text_of w.params (buses ++ more)
+  pub joined : (more : List Bus) →
+      text ++ cycles_text w.params w.cycles w.last more ≡ vcd_text_of w.params (buses ++ more)
 
 -- each signal's value is below 2 to its width
 abbrev pub Fits : Params → List Quad → Type 0
@@ -30,4 +31,6 @@ Fits p q = (s : Signal) → value_in q s < 2 ^ width_of s p
 
 -- the text of buses has a reading, which has their variables and items
 abbrev pub ReadsBack : Params → List Bus → Type 0
-ReadsBack p buses = reading_of (vcd_text_of p buses) ≡ Ok (record { variables = written_variables p; items = written_items p buses })
+ReadsBack p buses =
+    reading_of (vcd_text_of p buses)
+    ≡ Ok (record { variables = written_variables p; items = written_items p buses })

@@ -1,6 +1,6 @@
--- The text of a list of buses (IEEE 1364-2005, clause 18): a header, and the changes of each cycle. And
--- what it says: its variables, and its times and changes.
-use Rattle.std.specs.Prelude.{ℕ, ◌+◌, ◌*◌, ◌==◌, Bool, false, cond, nat_lt, List, [], ◌∷◌, ◌++◌, map, filter, drop, Option, Some, None, codes}
+-- The text of a list of buses (IEEE 1364-2005, clause 18): a header, and the changes of each cycle.
+-- And what it says: its variables, and its times and changes.
+use Rattle.std.specs.Prelude.{ℕ, ◌+◌, ◌*◌, ◌==◌, Bool, false, if◌then◌else◌, nat_lt, List, [], ◌∷◌, ◌++◌, map, filter, drop, Option, Some, None, codes}
 use Rattle.std.specs.List.{flat_map}
 use Rattle.std.specs.Int.Digits.{digits_of}
 use Rattle.xif_base.specs.declared.params.Params.{Params}
@@ -10,6 +10,7 @@ use Rattle.xif_signals.specs.declared.sample.Quad.{Quad}
 use Rattle.xif_signals.specs.Signal.{signals, code_of, name_of, width_of}
 use Rattle.xif_signals.specs.Quad.{quad_of}
 use Rattle.xif_signals.specs.Bus.{sample_of}
+use Rattle.vcd_text.specs.Words.{zero_digit, space, line_feed, number_sign}
 use Rattle.vcd_text.specs.declared.digit.Digit.{Digit}
 use Rattle.vcd_text.specs.declared.digit.Digit.TheVariants.{Zero, One}
 use Rattle.vcd_text.specs.declared.declaration.Variable.{Variable}
@@ -20,32 +21,34 @@ use Rattle.vcd_text.specs.declared.item.Item.TheVariants.{Time, Change}
 
 -- a number's digits without leading zeros, and 0 for 0
 abbrev pub numeral : ℕ → ℕ → List ℕ
-numeral base n = cond (n == 0) (48 ∷ []) (map (λ d. 48 + d) (digits_of base n))
+numeral base n = if n == 0 then zero_digit ∷ [] else map (λ d. zero_digit + d) (digits_of base n)
 
--- a word with a space behind it, and the last word of a line
-abbrev pub word : List ℕ → List ℕ
-word w = w ++ 32 ∷ []
+-- a word and the space behind it, and the last word of a line and the line end behind it
+abbrev pub with_space : List ℕ → List ℕ
+with_space w = w ++ space ∷ []
 
-abbrev pub last : List ℕ → List ℕ
-last w = w ++ 10 ∷ []
+abbrev pub with_line_end : List ℕ → List ℕ
+with_line_end w = w ++ line_feed ∷ []
 
 -- `$var wire WIDTH CODE NAME $end`
 abbrev pub var_line : Params → Signal → List ℕ
 var_line p s =
-    word (codes "$var") ++ (word (codes "wire") ++ (word (numeral 10 (width_of s p)) ++ (word (code_of s)
-    ++ (word (name_of s) ++ last (codes "$end")))))
+    with_space (codes "$var") ++ (with_space (codes "wire")
+    ++ (with_space (numeral 10 (width_of s p)) ++ (with_space (code_of s)
+    ++ (with_space (name_of s) ++ with_line_end (codes "$end")))))
 
 abbrev pub time_line : ℕ → List ℕ
-time_line t = last (35 ∷ numeral 10 t)
+time_line t = with_line_end (number_sign ∷ numeral 10 t)
 
 -- a digit and the code for one bit, else `b`, the digits, and the code
 abbrev pub change_line : ℕ → List ℕ → ℕ → List ℕ
 change_line width code value =
-    cond (width == 1) (last ((48 + value) ∷ code)) (word (98 ∷ numeral 2 value) ++ last code)
+    if width == 1 then with_line_end ((zero_digit + value) ∷ code)
+    else with_space (codes "b" ++ numeral 2 value) ++ with_line_end code
 
 -- the clock, whose code is `!`
 abbrev pub clock_line : ℕ → List ℕ
-clock_line value = last ((48 + value) ∷ 33 ∷ [])
+clock_line value = with_line_end ((zero_digit + value) ∷ codes "!")
 
 -- ---- the text
 
@@ -71,14 +74,17 @@ is_same (Some a) b s = value_in a s == value_in b s
 
 -- the line of a signal, where its value changed
 abbrev pub changed_line : Params → Option (List Quad) → List Quad → Signal → List ℕ
-changed_line p a b s = cond (is_same a b s) [] (change_line (width_of s p) (code_of s) (value_in b s))
+changed_line p a b s =
+    if is_same a b s then [] else change_line (width_of s p) (code_of s) (value_in b s)
 
 abbrev pub header_text : Params → List ℕ
 header_text p =
-    codes "$timescale 1 ns $end\n" ++ (codes "$scope module xif $end\n" ++ (flat_map (var_line p) (wires_of p)
+    codes "$timescale 1 ns $end\n" ++ (codes "$scope module xif $end\n"
+    ++ (flat_map (var_line p) (wires_of p)
     ++ (codes "$upscope $end\n" ++ codes "$enddefinitions $end\n")))
 
--- cycle c with its sample, behind a cycle with sample a: its changes stand at time 10c, and the clock rises at 10c + 5
+-- cycle c with its sample, behind a cycle with sample a: its changes stand at time 10c, and the
+-- clock rises at 10c + 5
 abbrev pub cycle_text : Params → ℕ → Option (List Quad) → List Quad → List ℕ
 cycle_text p c a b =
     time_line (10 * c) ++ (clock_line 0 ++ (flat_map (changed_line p a b) (data_wires_of p)
@@ -91,7 +97,8 @@ end_text c = time_line (10 * c) ++ clock_line 0
 -- the cycles from cycle c on, behind a cycle with sample a, and the end
 abbrev pub cycles_text : Params → ℕ → Option (List Quad) → List Bus → List ℕ
 cycles_text p c a [] = end_text c
-cycles_text p c a (b ∷ bs) = cycle_text p c a (sample_of b) ++ cycles_text p (c + 1) (Some (sample_of b)) bs
+cycles_text p c a (b ∷ bs) =
+    cycle_text p c a (sample_of b) ++ cycles_text p (c + 1) (Some (sample_of b)) bs
 
 -- the text of a list of buses, the first cycle first
 abbrev pub vcd_text_of : Params → List Bus → List ℕ
@@ -103,22 +110,25 @@ vcd_text_of p buses = header_text p ++ cycles_text p 0 None buses
 abbrev pub variables_from : Params → ℕ → List Signal → List Variable
 variables_from p k [] = []
 variables_from p k (s ∷ ss) =
-    record { name = codes "xif." ++ name_of s; code = k; size = width_of s p } ∷ variables_from p (k + 1) ss
+    record { name = codes "xif." ++ name_of s; code = k; size = width_of s p }
+    ∷ variables_from p (k + 1) ss
 
 abbrev pub written_variables : Params → List Variable
 written_variables p = variables_from p 0 (wires_of p)
 
 -- the digits of a number in base 2, the leftmost first
 abbrev pub bit_digit : ℕ → Digit
-bit_digit bit = cond (bit == 0) Zero One
+bit_digit bit = if bit == 0 then Zero else One
 
 abbrev pub bits : ℕ → List Digit
-bits n = cond (n == 0) (Zero ∷ []) (map bit_digit (digits_of 2 n))
+bits n = if n == 0 then Zero ∷ [] else map bit_digit (digits_of 2 n)
 
 -- the changes of signals, the first of which has this place among the codes
 abbrev pub change_items : Option (List Quad) → List Quad → ℕ → List Signal → List Item
 change_items a b k [] = []
-change_items a b k (s ∷ ss) = cond (is_same a b s) [] (Change k (bits (value_in b s)) ∷ []) ++ change_items a b (k + 1) ss
+change_items a b k (s ∷ ss) =
+    (if is_same a b s then [] else Change k (bits (value_in b s)) ∷ [])
+    ++ change_items a b (k + 1) ss
 
 abbrev pub cycle_items : Params → ℕ → Option (List Quad) → List Quad → List Item
 cycle_items p c a b =
@@ -127,7 +137,8 @@ cycle_items p c a b =
 
 abbrev pub cycles_items : Params → ℕ → Option (List Quad) → List Bus → List Item
 cycles_items p c a [] = Time (10 * c) ∷ Change 0 (bits 0) ∷ []
-cycles_items p c a (b ∷ bs) = cycle_items p c a (sample_of b) ++ cycles_items p (c + 1) (Some (sample_of b)) bs
+cycles_items p c a (b ∷ bs) =
+    cycle_items p c a (sample_of b) ++ cycles_items p (c + 1) (Some (sample_of b)) bs
 
 abbrev pub written_items : Params → List Bus → List Item
 written_items p buses = cycles_items p 0 None buses

@@ -1,4 +1,4 @@
-// Identifier codes and their sizes.
+//! Identifier codes and their sizes.
 ghost use Rattle.std.specs.Prelude.{◌≡◌, ◌<◌, ◌≤◌, ◌^◌, ◌++◌, [], ◌∷◌, None, length, OnOk, OnErr};
 ghost use Rattle.vcd_text.specs.Codes.{code_from};
 
@@ -7,8 +7,8 @@ use std::alloc::Global;
 use std::marker::Model;
 use xif_base::NoMemory;
 
-/// The codes that are declared, each with its size in bits, by first declaration. The number of a code is
-/// its place among them.
+/// The codes that are declared, each with its size in bits, by first declaration. The number of a
+/// code is its place among them.
 #[derive(Drop)]
 pub struct Codes {
     sizes: IndexMap<Vec<u8>, u32>,
@@ -26,6 +26,7 @@ impl Model for Codes {
 }
 
 impl Codes {
+    /// No codes.
     pub fn new(alloc: Global) -> Codes
         ensures { result ≡ [] }
     {
@@ -34,7 +35,7 @@ impl Codes {
         }
     }
 
-    /// The number and the size of a code.
+    /// The number and the size in bits of a code, if it is declared.
     pub fn find(&self, text: &[u8]) -> Option<(u32, u32)>
         ensures { result ≡ code_from 0 text.now self.now }
     {
@@ -52,11 +53,12 @@ impl Codes {
         self.sizes.len() as u32
     }
 
-    /// Adds a code.
+    /// Adds a code that is not declared, with its size in bits.
     pub fn push(&mut self, alloc: Global, text: &[u8], size: u32) -> Result<(), NoMemory>
         requires room { length self.old < 2 ^ 32 }
         requires new { code_from 0 text.now self.old ≡ None }
-        ensures ok { OnOk result (self.new ≡ self.old ++ record { text = text.now; size = size } ∷ []) }
+        ensures ok { OnOk result
+            (self.new ≡ self.old ++ record { text = text.now; size = size } ∷ []) }
         ensures err { OnErr result (self.new ≡ self.old) }
     {
         self.sizes.insert(Vec::from_slice(alloc, text)?, size)?;

@@ -1,14 +1,15 @@
-// The variables that a text declares.
+//! The variables that a text declares.
 ghost use Rattle.std.specs.Prelude.{◌≡◌, ◌<◌, ◌++◌, [], ◌∷◌, Some, length, slice_get, OnOk, OnErr};
 
 use std::alloc::Global;
 use std::marker::Model;
 use xif_base::{Name, NoMemory};
 
-/// A variable of a waveform (IEEE 1364-2005, 18.2.3.7).
+/// A variable of a waveform (IEEE 1364-2005, 18.2.3, `$var`).
 #[derive(Debug, Drop)]
 pub struct Variable {
-    /// Its full name: the scopes that it stands in, the outermost first, and its own name, joined by full stops.
+    /// Its full name: the scopes that it stands in, the outermost first, and its own name, joined
+    /// by full stops.
     pub name: Name,
     /// The number of its identifier code: its place among the distinct codes, by first declaration.
     pub code: u32,
@@ -32,6 +33,7 @@ impl Model for Declarations {
 }
 
 impl Declarations {
+    /// No variables.
     pub fn new(alloc: Global) -> Declarations
         ensures { result ≡ [] }
     {
@@ -49,12 +51,14 @@ impl Declarations {
         Ok(())
     }
 
+    /// How many variables there are.
     pub fn len(&self) -> usize
         ensures { result ≡ length self.now }
     {
         self.items.len()
     }
 
+    /// The variable at a place, counted from 0.
     pub fn get(&self, i: usize) -> &Variable
         requires { i < length self.now }
         ensures { slice_get self.now i ≡ Some result.now }
@@ -62,6 +66,7 @@ impl Declarations {
         &self.items[i]
     }
 
+    /// All variables, in the order of the text.
     pub fn as_slice(&self) -> &[Variable]
         ensures { result.now ≡ self.now }
     {

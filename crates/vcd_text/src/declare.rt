@@ -1,8 +1,8 @@
-// What the blocks of the declarations do.
+//! What the blocks of the declarations do (IEEE 1364-2005, 18.2.3).
 ghost use Rattle.std.specs.Prelude.{◌≡◌, ◌<◌, ◌≤◌, ◌^◌, None, length};
 ghost use Rattle.vcd_text.specs.Codes.{code_from};
 ghost use Rattle.vcd_text.specs.Grammar.{var_at, var_sized, var, scope, upscope, block, opened, declaration};
-ghost use Rattle.vcd_text.specs.Steps.{Gives};
+ghost use Rattle.vcd_text.specs.Steps.{StepsTo};
 ghost use Rattle.vcd_text.specs.Words.{number};
 
 use crate::keyword::Keyword;
@@ -14,19 +14,22 @@ use crate::{Item, Variable, VcdCause};
 use std::alloc::Global;
 use xif_base::{Name, NoMemory};
 
+/// The greatest size of a variable in bits, which is a limit of this reader.
 const MAX_SIZE: u64 = 1_048_576;
 
+/// How many scopes may be open, which is a limit of this reader.
 const MAX_SCOPES: usize = 64;
 
 impl State {
-    /// Takes the first token of a block, or what isn't one.
+    /// Takes a token among the declarations, outside a block.
     pub fn declaration(
         &mut self,
         alloc: Global,
         at: u64,
         token: &[u8],
     ) -> Result<Option<Item>, Stop>
-        ensures { Gives self.old self.new result (declaration self.old (record { at = at; text = token.now })) }
+        ensures { StepsTo self.old self.new result
+            (declaration self.old (record { at = at; text = token.now })) }
     {
         if !is_command(token) {
             return Stop::fault(VcdCause::BadToken, at);
@@ -45,7 +48,7 @@ impl State {
         }
     }
 
-    /// Takes a block whose end came.
+    /// Takes a block, once its `$end` was read. A fault is at its first token.
     pub fn block(
         &mut self,
         alloc: Global,
@@ -54,7 +57,7 @@ impl State {
         words: &[Word],
     ) -> Result<Option<Item>, Stop>
         requires room { length self.old.codes < 2 ^ 32 }
-        ensures { Gives self.old self.new result (block self.old at keyword words.now) }
+        ensures { StepsTo self.old self.new result (block self.old at keyword words.now) }
     {
         match keyword {
             Keyword::Scope => self.scope(alloc, at, words),
@@ -69,7 +72,7 @@ impl State {
     }
 
     fn scope(&mut self, alloc: Global, at: u64, words: &[Word]) -> Result<Option<Item>, Stop>
-        ensures { Gives self.old self.new result (scope self.old at words.now) }
+        ensures { StepsTo self.old self.new result (scope self.old at words.now) }
     {
         let [_, name, ..] = words else {
             return Stop::fault(VcdCause::BadToken, at);
@@ -85,7 +88,7 @@ impl State {
     }
 
     fn upscope(&mut self, at: u64) -> Result<Option<Item>, Stop>
-        ensures { Gives self.old self.new result (upscope self.old at) }
+        ensures { StepsTo self.old self.new result (upscope self.old at) }
     {
         if self.scopes.len() == 0 {
             return Stop::fault(VcdCause::BadToken, at);
@@ -96,7 +99,7 @@ impl State {
 
     fn var(&mut self, alloc: Global, at: u64, words: &[Word]) -> Result<Option<Item>, Stop>
         requires room { length self.old.codes < 2 ^ 32 }
-        ensures { Gives self.old self.new result (var self.old at words.now) }
+        ensures { StepsTo self.old self.new result (var self.old at words.now) }
     {
         let [_, size, code, name, ..] = words else {
             return Stop::fault(VcdCause::BadVar, at);
@@ -116,7 +119,8 @@ impl State {
         size: u64,
     ) -> Result<Option<Item>, Stop>
         requires room { length self.old.codes < 2 ^ 32 }
-        ensures { Gives self.old self.new result (var_sized self.old at code.now name.now (Some size)) }
+        ensures { StepsTo self.old self.new result
+            (var_sized self.old at code.now name.now (Some size)) }
     {
         if size > MAX_SIZE || !is_code(code) {
             return Stop::fault(VcdCause::BadVar, at);
@@ -136,7 +140,8 @@ impl State {
         name: &str,
     ) -> Result<Option<Item>, Stop>
         requires room { length self.old.codes < 2 ^ 32 }
-        ensures { Gives self.old self.new result (var_at self.old at code.now size name.now (code_from 0 code.now self.old.codes)) }
+        ensures { StepsTo self.old self.new result
+            (var_at self.old at code.now size name.now (code_from 0 code.now self.old.codes)) }
     {
         let name = self.scopes.full_name(alloc, name)?;
         match self.codes.find(code) {

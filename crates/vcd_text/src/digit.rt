@@ -1,4 +1,4 @@
-// The digits of a value, and a value as a list of them.
+//! The digits of a value, and a value as a list of them.
 ghost use Rattle.std.specs.Prelude.{◌≡◌, ◌<◌, ◌++◌, [], ◌∷◌, Some, length, slice_get, IfOk, OnOk, OnErr};
 
 use smallvec::SmallVec;
@@ -6,7 +6,7 @@ use std::alloc::Global;
 use std::marker::Model;
 use xif_base::NoMemory;
 
-/// One of the four values of a bit (IEEE 1364-2005, 18.2.2).
+/// One of the four values of a bit (IEEE 1364-2005, 18.2.1, `value`).
 #[derive(Clone, Copy, Debug, Default, PartialEq, Eq)]
 pub enum Digit {
     Zero,
@@ -21,7 +21,7 @@ pub enum Digit {
 /// The digits of a value as they are written, the leftmost first.
 #[derive(Debug, Drop)]
 pub struct Digits {
-    // Most values have no more digits than this, and take no memory of their own.
+    // Most values have no more digits than this, and need no memory of their own.
     items: SmallVec<Digit, 32>,
 }
 
@@ -35,6 +35,7 @@ impl Model for Digits {
 }
 
 impl Digits {
+    /// No digits.
     pub fn new(alloc: Global) -> Digits
         ensures { result ≡ [] }
     {
@@ -61,12 +62,14 @@ impl Digits {
         Ok(())
     }
 
+    /// How many digits there are.
     pub fn len(&self) -> usize
         ensures { result ≡ length self.now }
     {
         self.items.len()
     }
 
+    /// The digit at a place, counted from 0 at the left.
     pub fn get(&self, i: usize) -> &Digit
         requires { i < length self.now }
         ensures { slice_get self.now i ≡ Some result.now }
@@ -74,6 +77,7 @@ impl Digits {
         &self.items.as_slice()[i]
     }
 
+    /// All digits, the leftmost first.
     pub fn as_slice(&self) -> &[Digit]
         ensures { result.now ≡ self.now }
     {

@@ -1,16 +1,19 @@
-// Why a text can't be read.
+//! Why a text has no reading, and why a reader goes no further.
 use xif_base::NoMemory;
 
 /// What is wrong with a text.
 #[derive(Clone, Copy, Debug, PartialEq, Eq)]
 pub enum VcdCause {
-    /// A token that is of no form that may stand there, a scope without a name or past 64 open ones, or the end of a scope where none is open.
+    /// A token that begins nothing which may stand there; a `$scope` without a name, with a name
+    /// that is not UTF-8, or past 64 open scopes; or an `$upscope` where no scope is open.
     BadToken = 1,
     /// The text ends in a block, or before the second token of a change.
     OpenBlock,
-    /// A declaration of a variable without type, size, code and name, or with a size or a code that can't be.
+    /// A `$var` without type, size, code and name, with a name that is not UTF-8, a size that is
+    /// not decimal or is past 1,048,576 bits, or a code that is not 1 to 64 characters from `!` to
+    /// `~`.
     BadVar,
-    /// A code that was declared with another size.
+    /// A `$var` of a code that was declared with another size.
     SizeDiffers,
     /// A change of a code that isn't declared.
     UnknownCode,
@@ -20,7 +23,7 @@ pub enum VcdCause {
     BadTime,
     /// A time below the last one.
     TimeBack,
-    /// The text ends among the declarations, outside a block.
+    /// The text ends outside a block, before `$enddefinitions` is complete.
     NoDefinitionsEnd,
 }
 
@@ -29,13 +32,16 @@ pub enum VcdCause {
 pub struct VcdFault {
     /// Where it is, in bytes from the text's start.
     pub at: u64,
+    /// What is wrong there.
     pub cause: VcdCause,
 }
 
 /// Why a reader goes no further.
 #[derive(Clone, Copy, Debug, PartialEq, Eq)]
 pub enum FeedFail {
+    /// The text has a fault, its first.
     Vcd(VcdFault),
+    /// Out of memory.
     NoMemory,
 }
 

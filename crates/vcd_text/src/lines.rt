@@ -1,13 +1,14 @@
-// The lines of a text.
+//! The lines of a text that is written.
 ghost use Rattle.std.specs.Prelude.{◌≡◌, ◌<◌, ◌≤◌, ◌+◌, ◌^◌, ◌++◌, ◌∷◌, [], map, OnOk};
 ghost use Rattle.std.specs.Int.Digits.{digits_of};
 ghost use Rattle.xif_base.specs.Params.{IsInRange};
+ghost use Rattle.vcd_text.specs.Words.{zero_digit};
 ghost use Rattle.vcd_text.specs.Written.{numeral, var_line, time_line, clock_line, change_line};
 
 use xif_base::{NoMemory, Params};
 use xif_signals::Signal;
 
-/// The declaration of the variable of a signal.
+/// The declaration of the variable of a signal (18.2.3, `$var`).
 pub(crate) fn put_variable(
     text: &mut Vec<u8>,
     params: &Params,
@@ -26,6 +27,7 @@ pub(crate) fn put_variable(
     Ok(())
 }
 
+/// A simulation time.
 pub(crate) fn put_time(text: &mut Vec<u8>, time: u64) -> Result<(), NoMemory>
     ensures { OnOk result (text.new.items ≡ text.old.items ++ time_line time) }
 {
@@ -35,7 +37,7 @@ pub(crate) fn put_time(text: &mut Vec<u8>, time: u64) -> Result<(), NoMemory>
     Ok(())
 }
 
-/// A change of the variable of a code to a value of so many bits.
+/// A change of the variable of a code to a value, which has this width in bits.
 pub(crate) fn put_change(
     text: &mut Vec<u8>,
     width: u8,
@@ -75,7 +77,8 @@ fn put_numeral(text: &mut Vec<u8>, base: u64, n: u64) -> Result<(), NoMemory>
 fn put_digits(text: &mut Vec<u8>, base: u64, n: u64) -> Result<(), NoMemory>
     requires low { 2 ≤ base }
     requires high { base ≤ 10 }
-    ensures { OnOk result (text.new.items ≡ text.old.items ++ map (λ d. 48 + d) (digits_of base n)) }
+    ensures { OnOk result
+        (text.new.items ≡ text.old.items ++ map (λ d. zero_digit + d) (digits_of base n)) }
 {
     if n > 0 {
         put_digits(text, base, n / base)?;

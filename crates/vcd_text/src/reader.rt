@@ -1,11 +1,11 @@
-// Reads a text in pieces.
-ghost use Rattle.std.specs.Prelude.{◌≡◌, ◌<◌, ◌≤◌, ◌^◌, ◌+◌, ◌++◌, ◌∷◌, [], ℕ, List, None, Some, true, false, cond, length, slice_get, IfSome, OnOk, OnErr, MatchOption};
+//! Reads a text in pieces.
+ghost use Rattle.std.specs.Prelude.{◌≡◌, ◌<◌, ◌≤◌, ◌^◌, ◌+◌, ◌++◌, ◌∷◌, [], ℕ, List, None, Some, true, false, if◌then◌else◌, length, slice_get, IfSome, OnOk, OnErr, MatchOption};
 ghost use Rattle.std.specs.Option.{option_map};
 ghost use Rattle.vcd_text.specs.declared.fault.VcdFault.{VcdFault};
 ghost use Rattle.vcd_text.specs.declared.item.Item.{Item};
 ghost use Rattle.vcd_text.specs.declared.declaration.Variable.{Variable};
 ghost use Rattle.vcd_text.specs.Sizes.{AreConsistent, FitsDeclared};
-ghost use Rattle.vcd_text.specs.Reader.{Stands, Fed, Closed, IsFaulty, after_take};
+ghost use Rattle.vcd_text.specs.Reader.{Represents, Fed, Closed, IsFaulty, after_take};
 
 use crate::scanner::Scanner;
 use crate::{Declarations, FeedFail, Item};
@@ -13,7 +13,7 @@ use std::alloc::Global;
 use std::marker::Model;
 use xif_base::NoMemory;
 
-/// Reads a text in pieces: gives its items in order, its declarations, and its first fault.
+/// Reads a text in pieces: returns its items in order, its declarations, and its first fault.
 #[derive(Drop)]
 pub struct Reader {
     scanner: Scanner,
@@ -34,8 +34,9 @@ impl Model for Reader {
 }
 
 impl Reader {
+    /// A reader before any text.
     pub fn new(alloc: Global) -> Reader
-        ensures stands { Stands result [] [] }
+        ensures represents { Represents result [] [] }
         ensures size { result.size ≡ 0 }
         ensures not_closed { result.is_closed ≡ false }
     {
@@ -46,24 +47,28 @@ impl Reader {
         }
     }
 
-    /// Takes the next piece of the text in. The fault is that of the tokens which are complete by then; once it
-    /// is told, every later call tells it. After a want of memory every later call answers that there is none.
+    /// Takes the next piece of the text in. The fault is that of the tokens which are complete by
+    /// then; once it is reported, every later call reports it. Once a call ran out of memory, every
+    /// later call says so.
     pub fn feed(&mut self, piece: &[u8]) -> Result<(), FeedFail>
         requires not_closed { self.old.is_closed ≡ false }
         requires room { self.old.has_failed ≡ false → self.old.size + length piece.now < 2 ^ 32 }
-        ensures fed { (text : List ℕ) (taken : List Item) → Stands self.old text taken → Fed self.new (text ++ piece.now) taken result }
-        ensures fault { (f : VcdFault) → IsFaulty self.old f → (result ≡ Err (FeedFail.Vcd f)) × (self.new ≡ self.old) }
-        ensures failed { self.old.has_failed ≡ true → (result ≡ Err FeedFail.NoMemory) × (self.new ≡ self.old) }
-        ensures declared { (vs : List Variable) → self.old.read.variables ≡ Some vs → self.new.has_failed ≡ false → self.new.read.variables ≡ Some vs }
+        ensures fed { (text : List ℕ) (taken : List Item) →
+            Represents self.old text taken → Fed self.new (text ++ piece.now) taken result }
+        ensures fault { (f : VcdFault) →
+            IsFaulty self.old f → (result ≡ Err (FeedFail.Vcd f)) × (self.new ≡ self.old) }
+        ensures failed { self.old.has_failed ≡ true →
+            (result ≡ Err FeedFail.NoMemory) × (self.new ≡ self.old) }
+        ensures declared { (vs : List Variable) → self.old.read.variables ≡ Some vs →
+            self.new.has_failed ≡ false → self.new.read.variables ≡ Some vs }
         ensures size { self.new.size ≤ self.old.size + length piece.now }
         ensures not_closed { self.new.is_closed ≡ false }
     {
         if self.has_failed {
             return Err(FeedFail::NoMemory);
         }
-        match self.scanner.fault {
-            Some(fault) => return Err(FeedFail::Vcd(fault)),
-            None => {}
+        if let Some(fault) = self.scanner.fault {
+            return Err(FeedFail::Vcd(fault));
         }
         match self.scanner.bytes(piece) {
             Ok(()) => {}
@@ -78,25 +83,28 @@ impl Reader {
         }
     }
 
-    /// Says that the text has ended.
+    /// Ends the text, and reports its fault if it has one.
     pub fn close(&mut self) -> Result<(), FeedFail>
         requires not_closed { self.old.is_closed ≡ false }
-        ensures closed { (text : List ℕ) (taken : List Item) → Stands self.old text taken → Closed self.new text taken result }
-        ensures fault { (f : VcdFault) → IsFaulty self.old f → (result ≡ Err (FeedFail.Vcd f)) × (self.new ≡ self.old) }
-        ensures failed { self.old.has_failed ≡ true → (result ≡ Err FeedFail.NoMemory) × (self.new ≡ self.old) }
-        ensures declared { (vs : List Variable) → self.old.read.variables ≡ Some vs → self.new.has_failed ≡ false → self.new.read.variables ≡ Some vs }
+        ensures closed { (text : List ℕ) (taken : List Item) →
+            Represents self.old text taken → Closed self.new text taken result }
+        ensures fault { (f : VcdFault) →
+            IsFaulty self.old f → (result ≡ Err (FeedFail.Vcd f)) × (self.new ≡ self.old) }
+        ensures failed { self.old.has_failed ≡ true →
+            (result ≡ Err FeedFail.NoMemory) × (self.new ≡ self.old) }
+        ensures declared { (vs : List Variable) → self.old.read.variables ≡ Some vs →
+            self.new.has_failed ≡ false → self.new.read.variables ≡ Some vs }
         ensures ended { OnOk result (self.new.is_closed ≡ true) }
         ensures alive { OnOk result (self.new.has_failed ≡ false) }
         ensures not_closed { OnErr result (self.new.is_closed ≡ false) }
-        ensures told { (f : VcdFault) → result ≡ Err (FeedFail.Vcd f) → IsFaulty self.new f }
+        ensures faulty { (f : VcdFault) → result ≡ Err (FeedFail.Vcd f) → IsFaulty self.new f }
         ensures size { self.new.size ≡ self.old.size }
     {
         if self.has_failed {
             return Err(FeedFail::NoMemory);
         }
-        match self.scanner.fault {
-            Some(fault) => return Err(FeedFail::Vcd(fault)),
-            None => {}
+        if let Some(fault) = self.scanner.fault {
+            return Err(FeedFail::Vcd(fault));
         }
         match self.scanner.end_token() {
             Ok(()) => {}
@@ -105,9 +113,8 @@ impl Reader {
                 return Err(FeedFail::NoMemory);
             }
         }
-        match self.scanner.fault {
-            Some(fault) => return Err(FeedFail::Vcd(fault)),
-            None => {}
+        if let Some(fault) = self.scanner.fault {
+            return Err(FeedFail::Vcd(fault));
         }
         match self.scanner.fault_at_end() {
             Some(fault) => {
@@ -121,13 +128,16 @@ impl Reader {
         }
     }
 
-    /// The next item that was read.
+    /// The next item that was read and not taken.
     pub fn take(&mut self) -> Option<Item>
-        ensures item { result ≡ cond self.old.has_failed None (slice_get self.old.read.items 0) }
+        ensures item { result
+            ≡ (if self.old.has_failed then None else slice_get self.old.read.items 0) }
         ensures rest { self.new ≡ after_take self.old }
-        ensures stands { (text : List ℕ) (taken : List Item) → Stands self.old text taken →
-            MatchOption result (Stands self.new text taken) (λ item. Stands self.new text (taken ++ item ∷ [])) }
-        ensures fits { (vs : List Variable) → self.old.read.variables ≡ Some vs → IfSome result (FitsDeclared vs) }
+        ensures represents { (text : List ℕ) (taken : List Item) → Represents self.old text taken →
+            MatchOption result (Represents self.new text taken)
+            (λ item. Represents self.new text (taken ++ item ∷ [])) }
+        ensures fits { (vs : List Variable) →
+            self.old.read.variables ≡ Some vs → IfSome result (FitsDeclared vs) }
     {
         if self.has_failed {
             return None;
@@ -137,7 +147,8 @@ impl Reader {
 
     /// The variables that the text declares, once the end of the declarations was read.
     pub fn declarations(&self) -> Option<&Declarations>
-        ensures variables { option_map (λ d. d.now) result ≡ cond self.now.has_failed None self.now.read.variables }
+        ensures variables { option_map (λ d. d.now) result
+            ≡ (if self.now.has_failed then None else self.now.read.variables) }
         ensures consistent { IfSome result (λ d. AreConsistent d.now) }
     {
         if self.has_failed || !self.scanner.state.is_declared {

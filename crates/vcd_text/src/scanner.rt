@@ -1,10 +1,10 @@
-// From bytes to tokens, and what they say.
+//! From bytes to tokens, and what they say.
 ghost use Rattle.std.specs.Prelude.{◌≡◌, ◌<◌, ◌≤◌, ◌^◌, ◌+◌, ◌++◌, [], ◌∷◌, ℕ, List, true, take, None, length, OnOk};
 ghost use Rattle.std.specs.List.{fold, list_all};
 ghost use Rattle.vcd_text.specs.Words.{is_ink};
 ghost use Rattle.vcd_text.specs.declared.item.Item.{Item};
 ghost use Rattle.vcd_text.specs.Reading.{go, fault_at_end};
-ghost use Rattle.vcd_text.specs.Scanner.{Follows, Steps, TakesToken, HasRoom, read_by, outcome};
+ghost use Rattle.vcd_text.specs.Scanner.{Represents, Steps, TakesToken, HasRoom, read_by, outcome};
 ghost use Rattle.vcd_text.specs.Sound.{IsSoundRead, Onward};
 ghost use Rattle.vcd_text.specs.Tokens.{token_before};
 
@@ -23,19 +23,19 @@ use xif_base::NoMemory;
 #[derive(Drop)]
 pub struct Scanner {
     pub alloc: Global,
-    /// How many bytes came.
+    /// How many bytes were taken in.
     pub size: u64,
     /// The token that is open.
     pub run: Vec<u8>,
     pub state: State,
     pub fault: Option<VcdFault>,
-    /// The items that weren't taken.
+    /// The items that were not taken.
     pub items: VecDeque<Item>,
 }
 
 impl Scanner {
     pub fn new(alloc: Global) -> Scanner
-        ensures follows { Follows result [] [] }
+        ensures follows { Represents result [] [] }
         ensures size { result.size ≡ 0 }
         ensures codes { HasRoom result }
         ensures sound { IsSoundRead (read_by result []) }
@@ -64,7 +64,7 @@ impl Scanner {
         ensures size { self.new.size ≤ self.old.size + length piece.now }
         ensures codes { OnOk result (HasRoom self.new) }
         ensures follows { OnOk result ((text : List ℕ) (taken : List Item) →
-            Follows self.old text taken → Follows self.new (text ++ piece.now) taken) }
+            Represents self.old text taken → Represents self.new (text ++ piece.now) taken) }
         ensures onward { OnOk result (Onward (read_by self.old []) (read_by self.new [])) }
     {
         let mut rest = piece;
@@ -92,12 +92,12 @@ impl Scanner {
         ensures size { self.new.size ≤ self.old.size + length word.now + 1 }
         ensures codes { OnOk result (HasRoom self.new) }
         ensures follows { OnOk result ((text : List ℕ) (taken : List Item) →
-            Follows self.old text taken → Follows self.new (text ++ word.now ++ next ∷ []) taken) }
+            Represents self.old text taken
+            → Represents self.new (text ++ word.now ++ next ∷ []) taken) }
         ensures onward { OnOk result (Onward (read_by self.old []) (read_by self.new [])) }
     {
-        match self.fault {
-            Some(_) => return Ok(()),
-            None => {}
+        if let Some(_) = self.fault {
+            return Ok(());
         }
         if self.run.is_empty() && is_white(next) {
             self.whole_token(word)?;
@@ -116,12 +116,11 @@ impl Scanner {
         ensures size { self.new.size ≤ self.old.size + length word.now }
         ensures codes { OnOk result (HasRoom self.new) }
         ensures follows { OnOk result ((text : List ℕ) (taken : List Item) →
-            Follows self.old text taken → Follows self.new (text ++ word.now) taken) }
+            Represents self.old text taken → Represents self.new (text ++ word.now) taken) }
         ensures onward { OnOk result (Onward (read_by self.old []) (read_by self.new [])) }
     {
-        match self.fault {
-            Some(_) => return Ok(()),
-            None => {}
+        if let Some(_) = self.fault {
+            return Ok(());
         }
         self.run.extend_from_slice(word)?;
         self.size += word.len() as u64;
@@ -150,12 +149,11 @@ impl Scanner {
         ensures size { self.new.size ≤ self.old.size + 1 }
         ensures codes { OnOk result (HasRoom self.new) }
         ensures follows { OnOk result ((text : List ℕ) (taken : List Item) →
-            Follows self.old text taken → Follows self.new (text ++ byte ∷ []) taken) }
+            Represents self.old text taken → Represents self.new (text ++ byte ∷ []) taken) }
         ensures onward { OnOk result (Onward (read_by self.old []) (read_by self.new [])) }
     {
-        match self.fault {
-            Some(_) => return Ok(()),
-            None => {}
+        if let Some(_) = self.fault {
+            return Ok(());
         }
         self.sound_byte(byte)?;
         Ok(())
@@ -188,7 +186,8 @@ impl Scanner {
         ensures codes { OnOk result (HasRoom self.new) }
         ensures run { OnOk result (self.new.run.items ≡ []) }
         ensures read { OnOk result ((taken : List Item) →
-            read_by self.new taken ≡ fold go (read_by self.old taken) (token_before self.old.size self.old.run.items)) }
+            read_by self.new taken ≡ fold go (read_by self.old taken)
+            (token_before self.old.size self.old.run.items)) }
         ensures onward { OnOk result (Onward (read_by self.old []) (read_by self.new [])) }
     {
         let mut run = mem::replace(&mut self.run, Vec::new(self.alloc));
@@ -205,9 +204,11 @@ impl Scanner {
         requires codes { length self.old.state.codes < 2 ^ 32 }
         ensures size { self.new.size ≡ self.old.size }
         ensures run { self.new.run ≡ self.old.run }
-        ensures codes { OnOk result (length self.new.state.codes ≤ length self.old.state.codes + length token.now) }
+        ensures codes { OnOk result
+            (length self.new.state.codes ≤ length self.old.state.codes + length token.now) }
         ensures read { OnOk result ((taken : List Item) →
-            read_by self.new taken ≡ fold go (read_by self.old taken) (token_before end token.now)) }
+            read_by self.new taken
+            ≡ fold go (read_by self.old taken) (token_before end token.now)) }
     {
         if token.is_empty() {
             return Ok(());

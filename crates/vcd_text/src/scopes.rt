@@ -1,6 +1,6 @@
-// The scopes that are open.
+//! The scopes that are open.
 ghost use Rattle.std.specs.Prelude.{◌≡◌, ◌++◌, ◌-◌, [], ◌∷◌, length, take, IfOk, OnOk, OnErr};
-ghost use Rattle.vcd_text.specs.Grammar.{full_name};
+ghost use Rattle.vcd_text.specs.Codes.{full_name};
 
 use std::alloc::Global;
 use std::marker::Model;

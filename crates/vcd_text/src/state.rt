@@ -1,4 +1,4 @@
-// Where the reading of a text stands.
+//! What the tokens so far say that the next ones depend on.
 use crate::codes::Codes;
 use crate::keyword::Keyword;
 use crate::scopes::Scopes;
@@ -30,7 +30,7 @@ pub enum Part {
     },
 }
 
-/// What the tokens so far say that the next ones depend on.
+/// The state of a reading between two tokens.
 #[derive(Drop)]
 pub struct State {
     pub scopes: Scopes,

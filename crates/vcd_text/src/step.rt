@@ -1,7 +1,7 @@
-// What a token does.
+//! What a token does.
 ghost use Rattle.std.specs.Prelude.{◌≡◌, ◌<◌, ◌^◌, Some, length};
 ghost use Rattle.vcd_text.specs.Grammar.{change, time_of, scalar, vector, command, body, step};
-ghost use Rattle.vcd_text.specs.Steps.{Gives};
+ghost use Rattle.vcd_text.specs.Steps.{StepsTo};
 ghost use Rattle.vcd_text.specs.Words.{number, digit, digits};
 
 use crate::keyword::Keyword;
@@ -21,7 +21,8 @@ impl State {
     /// Takes a token, which begins at an offset.
     pub fn step(&mut self, alloc: Global, at: u64, token: &[u8]) -> Result<Option<Item>, Stop>
         requires room { length self.old.codes < 2 ^ 32 }
-        ensures { Gives self.old self.new result (step self.old (record { at = at; text = token.now })) }
+        ensures { StepsTo self.old self.new result
+            (step self.old (record { at = at; text = token.now })) }
     {
         match mem::replace(&mut self.part, Part::Nothing) {
             Part::Nothing => {
@@ -65,7 +66,7 @@ impl State {
 
     /// Takes a token of the body, outside a part.
     fn body(&mut self, alloc: Global, at: u64, token: &[u8]) -> Result<Option<Item>, Stop>
-        ensures { Gives self.old self.new result (body self.old at token.now) }
+        ensures { StepsTo self.old self.new result (body self.old at token.now) }
     {
         let [first, rest @ ..] = token else {
             return Stop::fault(VcdCause::BadToken, at);
@@ -83,7 +84,7 @@ impl State {
     }
 
     fn time(&mut self, at: u64, digits: &[u8]) -> Result<Option<Item>, Stop>
-        ensures { Gives self.old self.new result (time_of self.old at (number digits.now)) }
+        ensures { StepsTo self.old self.new result (time_of self.old at (number digits.now)) }
     {
         let Some(time) = number(digits) else {
             return Stop::fault(VcdCause::BadTime, at);
@@ -96,7 +97,7 @@ impl State {
     }
 
     fn vector(&mut self, alloc: Global, at: u64, bytes: &[u8]) -> Result<Option<Item>, Stop>
-        ensures { Gives self.old self.new result (vector self.old at (digits bytes.now)) }
+        ensures { StepsTo self.old self.new result (vector self.old at (digits bytes.now)) }
     {
         let Some(digits) = digits(alloc, bytes)? else {
             return Stop::fault(VcdCause::BadToken, at);
@@ -109,7 +110,7 @@ impl State {
     }
 
     fn command(&mut self, at: u64, keyword: Keyword) -> Result<Option<Item>, Stop>
-        ensures { Gives self.old self.new result (command self.old at keyword) }
+        ensures { StepsTo self.old self.new result (command self.old at keyword) }
     {
         match keyword {
             Keyword::End | Keyword::Dump => Ok(None),
@@ -122,7 +123,7 @@ impl State {
     }
 
     fn scalar(&self, alloc: Global, at: u64, first: u8, code: &[u8]) -> Result<Option<Item>, Stop>
-        ensures { Gives self.now self.now result (scalar self.now at (digit first) code.now) }
+        ensures { StepsTo self.now self.now result (scalar self.now at (digit first) code.now) }
     {
         let Some(found) = digit(first) else {
             return Stop::fault(VcdCause::BadToken, at);
@@ -135,7 +136,7 @@ impl State {
         self.change(at, digits, at, code)
     }
 
-    /// Gives a change of a code. The code is tested before the width.
+    /// Returns a change of a code. The code is tested before the width.
     fn change(
         &self,
         at: u64,
@@ -143,7 +144,8 @@ impl State {
         code_at: u64,
         code: &[u8],
     ) -> Result<Option<Item>, Stop>
-        ensures { Gives self.now self.now result (change self.now at digits code_at code.now) }
+        ensures { StepsTo self.now self.now result
+            (change self.now at digits code_at code.now) }
     {
         let Some((code, size)) = self.codes.find(code) else {
             return Stop::fault(VcdCause::UnknownCode, code_at);

@@ -1,13 +1,15 @@
-// Why a step isn't taken.
+//! Why a token is not taken in.
 ghost use Rattle.std.specs.Prelude.{◌≡◌, Err};
 
 use crate::{VcdCause, VcdFault};
 use xif_base::NoMemory;
 
-/// Why a token isn't taken in.
+/// Why a token is not taken in.
 #[derive(Drop)]
 pub enum Stop {
+    /// Out of memory.
     NoMemory,
+    /// The token is the text's fault, or completes it.
     Fault(VcdFault),
 }
 

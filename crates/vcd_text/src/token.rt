@@ -1,4 +1,4 @@
-// What single tokens are.
+//! What single tokens are.
 ghost use Rattle.std.specs.Prelude.{◌≡◌, true, false, IfOk, IfSome, IfNone};
 ghost use Rattle.std.specs.List.{list_all};
 ghost use Rattle.std.specs.Str.{is_utf8};
@@ -60,6 +60,7 @@ pub fn digits(alloc: Global, bytes: &[u8]) -> Result<Option<Digits>, NoMemory>
     Ok(Some(found))
 }
 
+/// The keyword command that a token is.
 pub fn keyword(bytes: &[u8]) -> Keyword
     ensures { result ≡ keyword bytes.now }
 {
@@ -104,7 +105,7 @@ fn is_code_character(byte: u8) -> bool
     b'!' <= byte && byte <= b'~'
 }
 
-/// Whether a word may be an identifier code.
+/// Whether a word may be an identifier code: 1 to 64 characters from `!` to `~`.
 pub fn is_code(bytes: &[u8]) -> bool
     ensures { result ≡ is_code bytes.now }
 {

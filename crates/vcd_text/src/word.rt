@@ -1,4 +1,4 @@
-// Words of a text, and lists of words.
+//! Words of a text, and lists of words.
 ghost use Rattle.std.specs.Prelude.{◌≡◌, ◌++◌, [], ◌∷◌, length, IfOk, OnOk, OnErr};
 
 use std::alloc::Global;

@@ -1,4 +1,4 @@
-// The text of a list of buses, cycle by cycle.
+//! The text of a list of buses, cycle by cycle.
 ghost use Rattle.std.specs.Prelude.{◌≡◌, ◌≢◌, ◌<◌, ◌≤◌, ◌^◌, ◌+◌, ◌++◌, ◌∷◌, [], ℕ, List, IfOk, OnOk, OnErr, option_copied, nat_lt, if◌then◌else◌};
 ghost use Rattle.std.specs.List.{flat_map, AllByRecursion};
 ghost use Rattle.xif_base.specs.Params.{IsInRange};
@@ -18,7 +18,8 @@ use xif_signals::{Bus, Sample, Signal};
 /// How many bytes are reserved for the piece of a cycle, enough for all but the largest.
 const CYCLE_CAPACITY: usize = 512;
 
-/// Writes the text of a list of buses in pieces: the header, one piece a cycle, and the end.
+/// Writes the text of a list of buses in pieces: the header, one piece a cycle, and the end. Cycle
+/// c is at time 10c, and the clock rises at 10c + 5.
 #[derive(Debug, Drop)]
 pub struct Writer {
     params: Params,
@@ -39,6 +40,7 @@ impl Model for Writer {
 }
 
 impl Writer {
+    /// A writer before any cycle.
     pub fn new(params: &Params) -> Writer
         requires { IsInRange params.now }
         ensures { result ≡ begun params.now }
@@ -50,7 +52,7 @@ impl Writer {
         }
     }
 
-    /// The first piece of a text, which begins anew: the declarations.
+    /// The first piece of a text: the declarations. The writer begins anew.
     pub fn header(&mut self, alloc: Global) -> Result<Vec<u8>, NoMemory>
         ensures begun { OnOk result (self.new ≡ begun self.old.params) }
         ensures wrote { IfOk result (λ piece. Wrote self.new [] piece.items) }
@@ -69,7 +71,8 @@ impl Writer {
         requires fits { FitsWidths self.old.params bus.now }
         ensures params { self.new.params ≡ self.old.params }
         ensures count { OnOk result (self.new.cycles ≡ self.old.cycles + 1) }
-        ensures wrote { IfOk result (λ piece. (buses : List Bus) (text : List ℕ) → Wrote self.old buses text
+        ensures wrote { IfOk result (λ piece. (buses : List Bus) (text : List ℕ) →
+            Wrote self.old buses text
             → Wrote self.new (buses ++ bus.now ∷ []) (text ++ piece.items)) }
         ensures err { OnErr result (self.new ≡ self.old) }
     {
@@ -89,8 +92,8 @@ impl Writer {
 
     /// The last piece, behind the cycles so far.
     pub fn end(&self, alloc: Global) -> Result<Vec<u8>, NoMemory>
-        ensures { IfOk result (λ piece. (buses : List Bus) (text : List ℕ) → Wrote self.now buses text
-            → text ++ piece.items ≡ vcd_text_of self.now.params buses) }
+        ensures { IfOk result (λ piece. (buses : List Bus) (text : List ℕ) →
+            Wrote self.now buses text → text ++ piece.items ≡ vcd_text_of self.now.params buses) }
     {
         let mut text = Vec::new(alloc);
         put_end(&mut text, self.cycles)?;
@@ -112,7 +115,8 @@ fn put_header(text: &mut Vec<u8>, params: &Params) -> Result<(), NoMemory>
 
 fn put_variables(text: &mut Vec<u8>, params: &Params, signals: &[Signal]) -> Result<(), NoMemory>
     requires { IsInRange params.now }
-    ensures { OnOk result (text.new.items ≡ text.old.items ++ flat_map (var_line params.now) (wires params.now signals.now)) }
+    ensures { OnOk result (text.new.items
+        ≡ text.old.items ++ flat_map (var_line params.now) (wires params.now signals.now)) }
 {
     for signal in signals {
         if signal.width(params) > 0 {
@@ -133,7 +137,8 @@ fn put_cycle(
     requires params { IsInRange params.now }
     requires fits { Fits params.now sample.now }
     requires room { cycle < 2 ^ 60 }
-    ensures { OnOk result (text.new.items ≡ text.old.items ++ cycle_text params.now cycle (option_copied last.entry) sample.now) }
+    ensures { OnOk result (text.new.items
+        ≡ text.old.items ++ cycle_text params.now cycle (option_copied last.entry) sample.now) }
 {
     put_time(text, 10 * cycle)?;
     text.extend_from_slice(b"0!\n")?;
@@ -154,7 +159,8 @@ fn put_changes(
     requires fits { Fits params.now sample.now }
     requires signals { AllByRecursion (λ s. s ≢ Clk) signals.now }
     ensures { OnOk result (text.new.items ≡ text.old.items
-        ++ flat_map (changed_line params.now (option_copied last.entry) sample.now) (wires params.now signals.now)) }
+        ++ flat_map (changed_line params.now (option_copied last.entry) sample.now)
+        (wires params.now signals.now)) }
 {
     for signal in signals {
         put_changed(text, params, last, sample, *signal)?;
@@ -173,7 +179,8 @@ fn put_changed(
     requires params { IsInRange params.now }
     requires fits { Fits params.now sample.now }
     requires signal { signal ≢ Clk }
-    ensures { OnOk result (text.new.items ≡ text.old.items ++ (if nat_lt 0 (width_of signal params.now)
+    ensures { OnOk result (text.new.items
+        ≡ text.old.items ++ (if nat_lt 0 (width_of signal params.now)
         then changed_line params.now (option_copied last.entry) sample.now signal else [])) }
 {
     let width = signal.width(params);

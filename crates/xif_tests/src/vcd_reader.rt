@@ -1,156 +1,11 @@
-// Waveforms with the fault of each, or with what it says. The outcomes are those of an independent model of
-// the format.
+//! A waveform with what it says, and one with its fault, whatever the pieces. The outcomes are those of an independent
+//! model of the format; tests/waveforms.txt has the other faults.
 
 use crate::pieces::read;
 use std::alloc::{AllocError, Global};
 use std::process::Abort;
 use std::test::Fail;
 use vcd_text::{Declarations, Digit, FeedFail, Item, Reader, VcdCause, VcdFault};
-
-/// Where the fault of a text is and what it is, if there is one.
-type Outcome = Option<(u64, VcdCause)>;
-
-const DECLARATIONS: [(&str, Outcome); 16] = [
-    ("", Some((0, VcdCause::NoDefinitionsEnd))),
-    (
-        "$var wire 1 ! c $end\n",
-        Some((21, VcdCause::NoDefinitionsEnd)),
-    ),
-    ("$end\n", Some((0, VcdCause::BadToken))),
-    (
-        "$var wire 1 ! c $end\n$var wire 2 ! d $end\n",
-        Some((21, VcdCause::SizeDiffers)),
-    ),
-    (
-        "$var wire 1 ! c $end\n$var wire 2 ! d $end\n$enddefinitions $end\n",
-        Some((21, VcdCause::SizeDiffers)),
-    ),
-    ("$var wire 99999999 ! c $end\n", Some((0, VcdCause::BadVar))),
-    ("$dumpvars", Some((0, VcdCause::OpenBlock))),
-    ("$enddefinitions", Some((0, VcdCause::OpenBlock))),
-    ("$upscope $end", Some((0, VcdCause::BadToken))),
-    ("$scope module $end", Some((0, VcdCause::BadToken))),
-    ("#0", Some((0, VcdCause::BadToken))),
-    ("$var wire 1 ! $end", Some((0, VcdCause::BadVar))),
-    ("$var wire ! c $end", Some((0, VcdCause::BadVar))),
-    ("$var wire 1048576 ! c $end $enddefinitions $end\n", None),
-    (
-        "$var wire 0001048577 ! c $end $enddefinitions $end\n",
-        Some((0, VcdCause::BadVar)),
-    ),
-    (
-        "$var wire 0 ! c $end $enddefinitions $end\n0!",
-        Some((42, VcdCause::TooWide)),
-    ),
-];
-
-/// Two lines of declarations, 42 bytes.
-const FRONT: &str = "$var wire 1 ! c $end\n$enddefinitions $end\n";
-
-/// What follows these lines.
-const BODIES: [(&str, Outcome); 22] = [
-    ("#18446744073709551616\n", Some((42, VcdCause::BadTime))),
-    ("#18446744073709551615\n", None),
-    ("#5\n#4\n", Some((45, VcdCause::TimeBack))),
-    ("1\"\n", Some((42, VcdCause::UnknownCode))),
-    ("b01 !\n", Some((42, VcdCause::TooWide))),
-    ("$scope module m $end\n", Some((42, VcdCause::BadToken))),
-    ("$comment\n", Some((42, VcdCause::OpenBlock))),
-    (
-        "#0\n0!\n#5\n1!\n#10\n0!\n#15\n1!\nb10",
-        Some((68, VcdCause::OpenBlock)),
-    ),
-    ("b", Some((42, VcdCause::BadToken))),
-    ("b2 !", Some((42, VcdCause::BadToken))),
-    ("b0 ?", Some((45, VcdCause::UnknownCode))),
-    ("1", Some((42, VcdCause::BadToken))),
-    ("$end x", Some((47, VcdCause::BadToken))),
-    ("#", Some((42, VcdCause::BadTime))),
-    ("#+1", Some((42, VcdCause::BadTime))),
-    ("r0.5", Some((42, VcdCause::OpenBlock))),
-    ("r0.5 $end S $end #007 $dumpall $dumpon Z! $end", None),
-    ("$dumpvars #1 $dumpoff", None),
-    ("$other 1? $end 1!", None),
-    ("$var", Some((42, VcdCause::BadToken))),
-    ("$upscope", Some((42, VcdCause::BadToken))),
-    ("$enddefinitions", Some((42, VcdCause::BadToken))),
-];
-
-/// What comes first, what is repeated, how often, and what comes last.
-const LIMITS: [(&str, &str, usize, &str, Outcome); 4] = [
-    (
-        "$var wire 1 ",
-        "!",
-        64,
-        " c $end $enddefinitions $end\n",
-        None,
-    ),
-    (
-        "$var wire 1 ",
-        "~",
-        65,
-        " c $end $enddefinitions $end\n",
-        Some((0, VcdCause::BadVar)),
-    ),
-    (
-        "",
-        "$scope module m $end ",
-        64,
-        "$enddefinitions $end\n",
-        None,
-    ),
-    (
-        "",
-        "$scope module m $end ",
-        65,
-        "$enddefinitions $end\n",
-        Some((1344, VcdCause::BadToken)),
-    ),
-];
-
-fn fault(at: u64, cause: VcdCause) -> Result<(), FeedFail> {
-    Err(FeedFail::Vcd(VcdFault { at, cause }))
-}
-
-fn outcome(read: Result<Reader, FeedFail>) -> Result<(), FeedFail> {
-    read.map(|_| ())
-}
-
-/// Reads a text whole and in pieces.
-fn outcome_is(rt: &impl Abort, alloc: Global, text: &str, want: Outcome) {
-    assert!(rt; text.len() < 10_000);
-    let want = match want {
-        None => Ok(()),
-        Some((at, cause)) => fault(at, cause),
-    };
-    for len in [10_000, 1, 7] {
-        assert_eq!(rt;
-            outcome(read(alloc, text.as_bytes(), len)),
-            want,
-            "{len} {text:?}"
-        );
-    }
-}
-
-#[test]
-fn the_first_fault_is_told_whatever_the_pieces(rt: HostRuntime) -> Result<(), Fail> {
-    for (text, want) in DECLARATIONS {
-        outcome_is(&rt, rt.alloc(), text, want);
-    }
-    for (text, want) in BODIES {
-        let text = format!(in rt.alloc(); "{FRONT}{text}")?;
-        outcome_is(&rt, rt.alloc(), text.as_str(), want);
-    }
-    for (head, unit, count, tail, want) in LIMITS {
-        let mut text = String::from_str(rt.alloc(), head)?;
-        for _ in 0..count {
-            text.push_str(unit)?;
-        }
-        text.push_str(tail)?;
-        outcome_is(&rt, rt.alloc(), text.as_str(), want);
-    }
-    Ok(())
-}
 
 const NESTED: &str = "$date today $end
 $version sim $end
@@ -265,14 +120,25 @@ fn variables_and_items_come_in_order(rt: HostRuntime) -> Result<(), Fail> {
     let items = items_text(rt.alloc(), &mut reader)?;
     assert_eq!(rt; items.as_str(), NESTED_ITEMS);
     assert!(rt; reader.take().is_none());
-    // A name is text.
-    assert_eq!(rt;
-        outcome(read(rt.alloc(), b"$scope module \xff $end", 3)),
-        fault(0, VcdCause::BadToken)
-    );
-    assert_eq!(rt;
-        outcome(read(rt.alloc(), b"$var wire 1 ! \xc3( $end", 3)),
-        fault(0, VcdCause::BadVar)
-    );
+    Ok(())
+}
+
+/// The declarations of one bit, some changes, and a change without its code.
+const UNFINISHED: &str =
+    "$var wire 1 ! c $end\n$enddefinitions $end\n#0\n0!\n#5\n1!\n#10\n0!\n#15\n1!\nb10";
+
+#[test]
+fn the_first_fault_is_reported_whatever_the_pieces(rt: HostRuntime) -> Result<(), Fail> {
+    for len in [1000, 1, 7] {
+        let fault = VcdFault {
+            at: 68,
+            cause: VcdCause::OpenBlock,
+        };
+        assert_eq!(rt;
+            read(rt.alloc(), UNFINISHED.as_bytes(), len).map(|_| ()),
+            Err(FeedFail::Vcd(fault)),
+            "{len}"
+        );
+    }
     Ok(())
 }

@@ -1,5 +1,5 @@
 use Rattle.std.proofs.Common.{◌≡◌, ◌++◌, drop, string_bytes}
-use Rattle.vcd_text.specs.Grammar.{full_name}
+use Rattle.vcd_text.specs.Codes.{full_name}
 use Rattle.vcd_text.proofs.scopes.Scopes.full_name.Given as goal
 
 abbrev pub invariant-loop-scope : goal.invariant-loop-scope
