@@ -39,11 +39,11 @@ sample_newest sample older =
 sample_past : (history : List (List Quad)) (cycle : ℕ) → length history ≤ cycle → sample_at history cycle ≡ None
 sample_past history cycle h = slice_get_past (reverse history) cycle (rw (length-reverse history) h)
 
--- ---- what the first fault says of the faults of all cycles
+-- ---- the first fault and the faults of all cycles
 
-abbrev Tells : Params → List (List Quad) → Option Verdict → Type 0
-Tells params history None = (cycle : ℕ) → fault_at params history cycle ≡ None
-Tells params history (Some verdict) = IsFirst params history verdict × (verdict.cycle < length history)
+abbrev MatchesFaults : Params → List (List Quad) → Option Verdict → Type 0
+MatchesFaults params history None = (cycle : ℕ) → fault_at params history cycle ≡ None
+MatchesFaults params history (Some verdict) = IsFirst params history verdict × (verdict.cycle < length history)
 
 module _ (params : Params) (sample : List Quad) (older : List (List Quad)) where
   fault_older : (cycle : ℕ) → cycle < length older → fault_at params (sample ∷ older) cycle ≡ fault_at params older cycle
@@ -59,36 +59,36 @@ module _ (params : Params) (sample : List Quad) (older : List (List Quad)) where
   none_more cycle e none (inr h) (inl within) = fault_newest cycle (omega arith) ∙ e
   none_more cycle e none (inr h) (inr past) = ap (option_and_then (fault_now params)) (sample_past (sample ∷ older) cycle past)
 
-  tells_more : (so_far : Option Verdict) (fault : Option Fault) → Tells params older so_far → fault_now params sample ≡ fault
-      → Tells params (sample ∷ older) (option_or so_far (option_map (verdict_on (length older)) fault))
-  tells_more (Some verdict) fault t e = (
+  matches_more : (so_far : Option Verdict) (fault : Option Fault) → MatchesFaults params older so_far → fault_now params sample ≡ fault
+      → MatchesFaults params (sample ∷ older) (option_or so_far (option_map (verdict_on (length older)) fault))
+  matches_more (Some verdict) fault t e = (
     record {
       fault = fault_older verdict.cycle t.1 ∙ t.0.fault;
       earlier = λ cycle h. fault_older cycle (omega (arith, h, t.1)) ∙ t.0.earlier cycle h;
     },
     omega (arith, t.1),
   )
-  tells_more None (Some fault) t e = (
+  matches_more None (Some fault) t e = (
     record {
       fault = fault_newest (length older) refl ∙ e;
       earlier = λ cycle h. fault_older cycle h ∙ t cycle;
     },
     omega arith,
   )
-  tells_more None None t e =
+  matches_more None None t e =
       λ cycle. none_more cycle e (t cycle) (cases_lt cycle (length older)) (cases_lt cycle (length (sample ∷ older)))
 
-tells : (params : Params) (history : List (List Quad)) → Tells params history (first_fault params history)
-tells params [] = λ cycle. refl
-tells params (sample ∷ older) = tells_more params sample older (first_fault params older) (fault_now params sample) (tells params older) refl
+matches : (params : Params) (history : List (List Quad)) → MatchesFaults params history (first_fault params history)
+matches params [] = λ cycle. refl
+matches params (sample ∷ older) = matches_more params sample older (first_fault params older) (fault_now params sample) (matches params older) refl
 
 -- ---- the laws
 
-of_none : (params : Params) (history : List (List Quad)) (told : Option Verdict) → Tells params history told → told ≡ None → (cycle : ℕ) → fault_at params history cycle ≡ None
+of_none : (params : Params) (history : List (List Quad)) (found : Option Verdict) → MatchesFaults params history found → found ≡ None → (cycle : ℕ) → fault_at params history cycle ≡ None
 of_none params history None t e = t
 of_none params history (Some verdict) t e = absurd (cc)
 
-of_some : (params : Params) (history : List (List Quad)) (told : Option Verdict) (verdict : Verdict) → Tells params history told → told ≡ Some verdict → IsFirst params history verdict
+of_some : (params : Params) (history : List (List Quad)) (found : Option Verdict) (verdict : Verdict) → MatchesFaults params history found → found ≡ Some verdict → IsFirst params history verdict
 of_some params history None verdict t e = absurd (cc)
 of_some params history (Some other) verdict t e =
     let same : other ≡ verdict = cc in
@@ -97,7 +97,7 @@ of_some params history (Some other) verdict t e =
 -- two verdicts that are first are one
 same_first : (params : Params) (history : List (List Quad)) (v w : Verdict) → IsFirst params history v → IsFirst params history w → v.cycle ≡ w.cycle → v ≡ w
 same_first params history v w f g e =
-    let told = sym f.fault ∙ ap (fault_at params history) e ∙ g.fault in
+    let found = sym f.fault ∙ ap (fault_at params history) e ∙ g.fault in
     let fault : record { rule = v.rule; channel = v.channel; key = v.key } ≡ record { rule = w.rule; channel = w.channel; key = w.key } = cc in
     λ i. verdict_on (e i) (fault i)
 
@@ -110,15 +110,15 @@ same_cycle params history v w f g (inl h) k = absurd (none_some (fault_at params
 same_cycle params history v w f g (inr h) (inl k) = absurd (none_some (fault_at params history w.cycle) _ (f.earlier w.cycle k) g.fault)
 same_cycle params history v w f g (inr h) (inr k) = same_first params history v w f g (omega arith)
 
-is_told : (params : Params) (history : List (List Quad)) (told : Option Verdict) (verdict : Verdict) → Tells params history told → IsFirst params history verdict → told ≡ Some verdict
-is_told params history None verdict t f = absurd (none_some (fault_at params history verdict.cycle) _ (t verdict.cycle) f.fault)
-is_told params history (Some other) verdict t f =
+is_found : (params : Params) (history : List (List Quad)) (found : Option Verdict) (verdict : Verdict) → MatchesFaults params history found → IsFirst params history verdict → found ≡ Some verdict
+is_found params history None verdict t f = absurd (none_some (fault_at params history verdict.cycle) _ (t verdict.cycle) f.fault)
+is_found params history (Some other) verdict t f =
     ap Some (same_cycle params history other verdict t.0 f (cases_lt other.cycle verdict.cycle) (cases_lt verdict.cycle other.cycle))
 
 pub first_is : (params : Params) (history : List (List Quad)) (verdict : Verdict) → (first_fault params history ≡ Some verdict) ↔ IsFirst params history verdict
 first_is params history verdict = (
-  λ e. of_some params history (first_fault params history) verdict (tells params history) e,
-  λ f. is_told params history (first_fault params history) verdict (tells params history) f,
+  λ e. of_some params history (first_fault params history) verdict (matches params history) e,
+  λ f. is_found params history (first_fault params history) verdict (matches params history) f,
 )
 
 none_at : (params : Params) (found : Option (List Quad)) (fault : Fault) → ((sample : List Quad) → found ≡ Some sample → fault_now params sample ≡ None)
@@ -126,14 +126,14 @@ none_at : (params : Params) (found : Option (List Quad)) (fault : Fault) → ((s
 none_at params None fault legal e = cc
 none_at params (Some sample) fault legal e = none_some (fault_now params sample) fault (legal sample refl) e
 
-told_none : (params : Params) (history : List (List Quad)) (told : Option Verdict) → Tells params history told → IsLegal params history → told ≡ None
-told_none params history None t legal = refl
-told_none params history (Some verdict) t legal =
+found_none : (params : Params) (history : List (List Quad)) (found : Option Verdict) → MatchesFaults params history found → IsLegal params history → found ≡ None
+found_none params history None t legal = refl
+found_none params history (Some verdict) t legal =
     absurd (none_at params (sample_at history verdict.cycle) _ (λ sample at. (now_holds params sample).1 (legal verdict.cycle sample at)) t.0.fault)
 
 pub none_legal : (params : Params) (history : List (List Quad)) → (first_fault params history ≡ None) ↔ IsLegal params history
 none_legal params history = (
   λ e cycle sample at. (now_holds params sample).0
-      (sym (ap (option_and_then (fault_now params)) at) ∙ of_none params history (first_fault params history) (tells params history) e cycle),
-  λ legal. told_none params history (first_fault params history) (tells params history) legal,
+      (sym (ap (option_and_then (fault_now params)) at) ∙ of_none params history (first_fault params history) (matches params history) e cycle),
+  λ legal. found_none params history (first_fault params history) (matches params history) legal,
 )

@@ -1,4 +1,3 @@
-pub mod Channels
 pub mod Rules
 pub mod Faults
 pub mod Histories

@@ -1,4 +1,4 @@
-// The judge: it takes the samples of a waveform in order.
+//! The judge, which takes the samples of a waveform in order.
 ghost use Rattle.std.specs.Prelude.{◌≡◌, ◌<◌, ◌+◌, ◌-◌, ◌^◌, List, [], ◌∷◌, IfOk, IfSome, Err};
 ghost use Rattle.std.specs.Option.{option_map, option_or};
 ghost use Rattle.xif_base.specs.declared.params.Params.{Params};
@@ -6,24 +6,24 @@ ghost use Rattle.xif_base.specs.Params.{IsInRange};
 ghost use Rattle.xif_signals.specs.declared.sample.Quad.{Quad};
 ghost use Rattle.xif_judge.specs.Faults as rules;
 ghost use Rattle.xif_judge.specs.Histories.{verdict_on, first_fault};
-ghost use Rattle.xif_judge.specs.Judging.{Stands, answer_of};
+ghost use Rattle.xif_judge.specs.Judging.{Represents, answer_of};
 
 use crate::hart_rule::hart_fault;
 use crate::verdict::{Fault, Verdict};
 use std::alloc::Global;
 use std::marker::Model;
 use xif_base::{NoMemory, Params};
-use xif_signals::{Sample, Signal, Unknown};
+use xif_signals::{Sample, Unknown};
 
-/// Takes the samples of a waveform in order, and tells the first fault by the rules of a session.
+/// Takes the samples of a waveform in order, and reports the first fault by the rules of a session.
 ///
-/// A cycle is a sample, and the first one has the number 0. Cycles in which rst_n isn't known to be 1 belong
-/// to no session: no rule is judged in them. In a cycle of a session the rules are judged in the order of
-/// `Rule`, and each rule channel by channel in the order of `Channel`.
+/// A cycle is a sample, and the first one has the number 0. Cycles in which rst_n isn't known to be
+/// 1 belong to no session: no rule is judged in them. In a cycle of a session the rules are judged
+/// in the order of `Rule`, and each rule channel by channel in the order of `Channel`.
 #[derive(Debug, Drop)]
 pub struct Judge {
     params: Params,
-    /// How many samples it took.
+    /// The number of samples that it took.
     cycles: u64,
     /// The first fault so far.
     verdict: Option<Verdict>,
@@ -41,10 +41,10 @@ impl Model for Judge {
 }
 
 impl Judge {
-    /// A judge that has taken no sample. It takes no memory yet.
+    /// A judge that has taken no sample. It allocates nothing so far.
     pub fn new(_alloc: Global, params: &Params) -> Result<Judge, NoMemory>
         requires { IsInRange params.now }
-        ensures { IfOk result (λ judge. Stands judge params.now []) }
+        ensures { IfOk result (λ judge. Represents judge params.now []) }
     {
         Ok(Judge {
             params: *params,
@@ -53,14 +53,16 @@ impl Judge {
         })
     }
 
-    /// Judges the next cycle. The answer is the first fault so far, so after a fault it stays the same. It
-    /// takes no memory.
+    /// Judges the next cycle, and returns the first fault so far, which stays the same from then
+    /// on. It allocates nothing.
     pub fn step(&mut self, sample: &Sample) -> Result<(), Verdict>
         requires room { self.old.cycles < 2 ^ 64 - 1 }
         ensures count { self.new.cycles ≡ self.old.cycles + 1 }
-        ensures stands { (params : Params) (history : List (List Quad)) → Stands self.old params history
-            → Stands self.new params (sample.now ∷ history) }
-        ensures answer { (params : Params) (history : List (List Quad)) → Stands self.old params history
+        ensures represents { (params : Params) (history : List (List Quad))
+            → Represents self.old params history
+            → Represents self.new params (sample.now ∷ history) }
+        ensures answer { (params : Params) (history : List (List Quad))
+            → Represents self.old params history
             → result ≡ answer_of (first_fault params (sample.now ∷ history)) }
         ensures kept { IfSome self.old.verdict (λ verdict. result ≡ Err verdict) }
     {
@@ -69,11 +71,18 @@ impl Judge {
         answer(self.verdict)
     }
 
-    /// How many samples it took.
+    /// The number of samples that it took.
     pub fn cycles(&self) -> u64
         ensures { result ≡ self.now.cycles }
     {
         self.cycles
+    }
+
+    /// The first fault so far.
+    pub fn verdict(&self) -> Option<Verdict>
+        ensures { result ≡ self.now.verdict }
+    {
+        self.verdict
     }
 }
 
@@ -85,7 +94,8 @@ fn first_verdict(
     sample: &Sample,
 ) -> Option<Verdict>
     requires { IsInRange params.now }
-    ensures { result ≡ option_or so_far (option_map (verdict_on cycle) (rules.fault_now params.now sample.now)) }
+    ensures { result
+        ≡ option_or so_far (option_map (verdict_on cycle) (rules.fault_now params.now sample.now)) }
 {
     match so_far {
         Some(verdict) => Some(verdict),
@@ -107,7 +117,7 @@ fn fault_now(params: &Params, sample: &Sample) -> Option<Fault>
     requires { IsInRange params.now }
     ensures { result ≡ rules.fault_now params.now sample.now }
 {
-    if !is_in_session(sample) {
+    if !sample.is_in_session(params) {
         return None;
     }
     match sample.known(params) {
@@ -118,12 +128,4 @@ fn fault_now(params: &Params, sample: &Sample) -> Option<Fault>
             key: None,
         }),
     }
-}
-
-/// Whether rst_n is known to be 1.
-fn is_in_session(sample: &Sample) -> bool
-    ensures { (params : Params) → result ≡ rules.is_in_session params sample.now }
-{
-    let reset = sample.get(Signal::RstN);
-    (reset.value & !reset.unknown) % 2 == 1
 }

@@ -1,13 +1,15 @@
-//! The judge of the interface: it takes the samples of a waveform in order, and tells the first fault by the
-//! rules of a session, in the first cycle in which one fails. K1, K2 and H1 are judged so far.
+//! The judge of the interface: it takes the samples of a waveform in order, and reports the first
+//! fault by the rules of a session, in the first cycle in which one fails. K1, K2 and H1 are judged
+//! so far.
 //!
-//! The layers above may use `Judge`, with one `step` a sample, and the `Verdict` that it answers. A cycle is a
-//! sample. Cycles in which rst_n isn't known to be 1 belong to no session: they are counted, and not judged.
+//! The layers above may use `Judge`, with one `step` a sample, and the `Verdict` that it returns. A
+//! cycle is a sample. Cycles in which rst_n isn't known to be 1 belong to no session: they are
+//! counted, and not judged.
 //!
-//! The definitions stand in `specs/`: `Channels` (valid and key of each channel), `Rules` (what each rule asks
-//! of a cycle), `Faults` (the fault of a cycle), `Histories` (the first fault of a list of samples, and which
-//! lists are legal) and `Judging` (which history a judge stands for). `legal_law`, `order_law` and
-//! `hart_law` are the laws that faults are told exactly where rules fail.
+//! The definitions are in `specs/`: `Rules` (where each rule holds in a cycle), `Faults` (the fault
+//! of a cycle), `Histories` (the first fault of a list of samples, and which lists are legal) and
+//! `Judging` (which history a judge represents). `legal_law`, `order_law` and `hart_law` are the
+//! laws that a fault is reported if and only if a rule fails.
 #![tactic(auto)]
 
 mod hart_rule;

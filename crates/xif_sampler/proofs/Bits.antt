@@ -6,7 +6,7 @@ use Rattle.std.proofs.lemmas.Nat.{pow_pos, pow-add}
 use Rattle.std.proofs.lemmas.List.{get_or-reverse, get_or_default, get_or_past, length-reverse}
 use Rattle.vcd_text.specs.declared.digit.Digit.{Digit}
 use Rattle.vcd_text.specs.declared.digit.Digit.TheVariants.{Zero, One, X, Z}
-use Rattle.xif_sampler.specs.Digits.{filler, digit_at, value_of, unknown_of, bits_from}
+use Rattle.xif_sampler.specs.Digits.{filler, digit_at, value_bit_of, unknown_bit_of, bits_from}
 
 -- the digits of a list, counted from its end
 pub digit_back : (ds : List Digit) (i : ℕ) (d : Digit) → i < length ds → digit_at ds (length ds - 1 - i) ≡ get_or ds i d
@@ -20,20 +20,20 @@ digit_back ds i d h =
 pub digit_past : (ds : List Digit) (i : ℕ) → length ds ≤ i → digit_at ds i ≡ filler ds
 digit_past ds i h = get_or_past (reverse ds) i (filler ds) (rw length-reverse h)
 
-pub value_small : (d : Digit) → value_of d ≤ 1
+pub value_small : (d : Digit) → value_bit_of d ≤ 1
 value_small Zero = omega arith
 value_small One = omega arith
 value_small X = omega arith
 value_small Z = omega arith
 
-pub unknown_small : (d : Digit) → unknown_of d ≤ 1
+pub unknown_small : (d : Digit) → unknown_bit_of d ≤ 1
 unknown_small Zero = omega arith
 unknown_small One = omega arith
 unknown_small X = omega arith
 unknown_small Z = omega arith
 
 -- what extends a value is no 1
-pub filler_no_one : (ds : List Digit) → value_of (filler ds) ≡ 0
+pub filler_no_one : (ds : List Digit) → value_bit_of (filler ds) ≡ 0
 filler_no_one [] = refl
 filler_no_one (Zero ∷ ds) = refl
 filler_no_one (One ∷ ds) = refl
@@ -101,7 +101,7 @@ bits_past f ds low (suc m) h =
     let product : f (filler ds) * (1 + 2 * (2 ^ m - 1)) ≡ f (filler ds) + 2 * (f (filler ds) * (2 ^ m - 1)) = grind arith in
     ap (λ n. n + 2 * bits_from f ds (low + 1) m) first ∙ omega (arith, rest, product, ap (λ n. f (filler ds) * n) ones)
 
--- the last digit that a signal takes stands at its lowest bit
+-- the last digit that a signal takes is at its lowest bit
 from_low : (f : Digit → ℕ) (ds : List Digit) (low end n : ℕ) → end ≡ length ds - low → n ≤ end → bits_from f ds low n ≡ bits_from f ds (length ds - end) n
 from_low f ds low end zero e h = refl
 from_low f ds low end (suc n) e h =
@@ -140,10 +140,10 @@ bits_filled f ds low width start end e s =
 
 -- what extends a value adds nothing to the number
 pub value_filled : (ds : List Digit) (low width start end : ℕ) → end ≡ length ds - low → start ≡ end - width
-    → bits_from value_of ds low width ≡ bits_from value_of ds (length ds - end) (end - start)
+    → bits_from value_bit_of ds low width ≡ bits_from value_bit_of ds (length ds - end) (end - start)
 value_filled ds low width start end e s =
-    bits_filled value_of ds low width start end e s
-    ∙ ap (λ k. bits_from value_of ds (length ds - end) (end - start) + k * (2 ^ width - 2 ^ (end - start))) (filler_no_one ds)
+    bits_filled value_bit_of ds low width start end e s
+    ∙ ap (λ k. bits_from value_bit_of ds (length ds - end) (end - start) + k * (2 ^ width - 2 ^ (end - start))) (filler_no_one ds)
     ∙ omega arith
 
 pub fits_64 : (f : Digit → ℕ) (ds : List Digit) (low width : ℕ) → ((d : Digit) → f d ≤ 1) → width ≤ 64 → bits_from f ds low width < 2 ^ 64

@@ -6,7 +6,7 @@ use Rattle.xif_sampler.specs.declared.fault.MapFault.{MapFault}
 use Rattle.xif_sampler.specs.declared.fault.MapFail.{MapFail}
 use Rattle.xif_sampler.specs.declared.fault.MapFail.TheVariants.{Map, NoMemory}
 use Rattle.xif_sampler.specs.declared.source.Source.{Source}
-use Rattle.xif_sampler.specs.Places.{with_next, sources_along, Gives}
+use Rattle.xif_sampler.specs.Places.{with_next, sources_along, FindsAs}
 
 more_by : (ys : List Source) (y : Source) (a : Result Source MapFault) (b next : Result (List Source) MapFault) → with_next a b ≡ Ok ys
     → ((zs : List Source) → b ≡ Ok zs → next ≡ Ok (zs ++ y ∷ [])) → with_next a next ≡ Ok (ys ++ y ∷ [])
@@ -53,6 +53,6 @@ found_fault f ss xs i s fault in_ss so_far here =
 
 -- what an exit of the loop gives
 pub gives_fault : (f : Signal → Result Source MapFault) (ss : List Signal) (xs : List Source) (i : ℕ) (s : Signal) (fail : MapFail) → i < length ss
-    → sources_along f (take i ss) ≡ Ok (take i xs) → Gives {A = Source} (Err fail) (f (get_or ss i s)) → Gives {A = List Source} (Err fail) (sources_along f ss)
+    → sources_along f (take i ss) ≡ Ok (take i xs) → FindsAs {A = Source} (Err fail) (f (get_or ss i s)) → FindsAs {A = List Source} (Err fail) (sources_along f ss)
 gives_fault f ss xs i s (Map fault) in_ss so_far here = found_fault f ss xs i s fault in_ss so_far here
 gives_fault f ss xs i s NoMemory in_ss so_far here = tt

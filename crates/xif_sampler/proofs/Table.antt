@@ -5,19 +5,19 @@ use Rattle.std.proofs.lemmas.List.{get_or-map}
 use Rattle.std.proofs.lemmas.List.FromFn.{get_or-range_with_len}
 use Rattle.xif_signals.specs.declared.signal.Signal.{Signal}
 use Rattle.xif_signals.specs.declared.signal.Signal.TheVariants.{Clk}
-use Rattle.xif_signals.specs.Signal.{signals, number_of}
+use Rattle.xif_signals.specs.Signal.{signals, signal_number}
 
-numbers : map number_of signals ≡ range_with_len 0 29
+numbers : map signal_number signals ≡ range_with_len 0 29
 numbers = refl
 
 -- signal i of the table has number i
-pub number_at : (ss : List Signal) (i : ℕ) (s : Signal) → ss ≡ signals → length ss ≡ 29 → i < 29 → number_of (get_or ss i s) ≡ i
+pub number_at : (ss : List Signal) (i : ℕ) (s : Signal) → ss ≡ signals → length ss ≡ 29 → i < 29 → signal_number (get_or ss i s) ≡ i
 number_at ss i s e n h =
     let inside : i < length ss = omega arith in
-    sym (get_or-map number_of ss i s 0 inside) ∙ ap (λ l. get_or (map number_of l) i 0) e
+    sym (get_or-map signal_number ss i s 0 inside) ∙ ap (λ l. get_or (map signal_number l) i 0) e
     ∙ ap (λ l. get_or l i 0) numbers ∙ get_or-range_with_len 0 29 i 0 h ∙ zero-add i
 
-pub not_clock : (s : Signal) (i : ℕ) → number_of s ≡ i → 1 ≤ i → s ≢ Clk
+pub not_clock : (s : Signal) (i : ℕ) → signal_number s ≡ i → 1 ≤ i → s ≢ Clk
 not_clock s i e h k =
-    let zero : number_of s ≡ 0 = ap number_of k in
+    let zero : signal_number s ≡ 0 = ap signal_number k in
     omega (arith, zero)

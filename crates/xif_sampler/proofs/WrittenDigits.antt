@@ -11,7 +11,7 @@ use Rattle.vcd_text.specs.declared.digit.Digit.{Digit}
 use Rattle.vcd_text.specs.declared.digit.Digit.TheVariants.{Zero, One}
 use Rattle.vcd_text.specs.Written.{bits, bit_digit}
 use Rattle.vcd_text.proofs.Numerals.{some_digits}
-use Rattle.xif_sampler.specs.Digits.{filler, digit_at, value_of, unknown_of, bits_from, quad_from}
+use Rattle.xif_sampler.specs.Digits.{filler, digit_at, value_bit_of, unknown_bit_of, bits_from, quad_from}
 
 -- ---- the digits of a number, the last one first, and Zero behind them
 
@@ -77,7 +77,7 @@ unfolding number_from
 none g e low zero = refl
 none g e low (suc w) = ap (λ n. n + 2 * number_from g (low + 1) w) (e low) ∙ ap (λ n. 0 + 2 * n) (none g e (low + 1) w)
 
-bit_value : (b : ℕ) → b < 2 → value_of (bit_digit b) ≡ b
+bit_value : (b : ℕ) → b < 2 → value_bit_of (bit_digit b) ≡ b
 bit_value zero h = refl
 bit_value (suc zero) h = refl
 bit_value (suc (suc b)) h = absurd (omega arith)
@@ -85,30 +85,30 @@ bit_value (suc (suc b)) h = absurd (omega arith)
 halved : (v w : ℕ) → v < 2 ^ suc w → v / 2 < 2 ^ w
 halved v w h = let e : 2 ^ suc w ≡ 2 * 2 ^ w = pow-succ' 2 w in omega arith
 
-whole : (v w : ℕ) → v < 2 ^ w → number_from (λ i. value_of (place v i)) 0 w ≡ v
+whole : (v w : ℕ) → v < 2 ^ w → number_from (λ i. value_bit_of (place v i)) 0 w ≡ v
 unfolding number_from
 whole v zero h = omega arith
 whole v (suc w) h =
     let p = places v in
-    let g : ℕ → ℕ = λ i. value_of (place v i) in
-    let low : value_of (place v 0) ≡ v % 2 = ap value_of p.here ∙ bit_value (v % 2) (omega arith) in
-    let rest : number_from g (0 + 1) w ≡ v / 2 = shifted g (λ i. value_of (place (v / 2) i)) (λ i. ap value_of (p.next i)) 0 w ∙ whole (v / 2) w (halved v w h) in
+    let g : ℕ → ℕ = λ i. value_bit_of (place v i) in
+    let low : value_bit_of (place v 0) ≡ v % 2 = ap value_bit_of p.here ∙ bit_value (v % 2) (omega arith) in
+    let rest : number_from g (0 + 1) w ≡ v / 2 = shifted g (λ i. value_bit_of (place (v / 2) i)) (λ i. ap value_bit_of (p.next i)) 0 w ∙ whole (v / 2) w (halved v w h) in
     ap (λ n. n + 2 * number_from g (0 + 1) w) low ∙ ap (λ n. v % 2 + 2 * n) rest ∙ (omega arith)
 
-known_by : (x : Bool) → unknown_of (cond x Zero One) ≡ 0
+known_by : (x : Bool) → unknown_bit_of (cond x Zero One) ≡ 0
 known_by true = refl
 known_by false = refl
 
-known_digit : (b : ℕ) → unknown_of (bit_digit b) ≡ 0
+known_digit : (b : ℕ) → unknown_bit_of (bit_digit b) ≡ 0
 known_digit b = known_by (b == 0)
 
-known_place : (v i : ℕ) → unknown_of (place v i) ≡ 0
-known_place v zero = ap unknown_of (places v).here ∙ known_digit (v % 2)
-known_place v (suc i) = ap unknown_of ((places v).next i) ∙ known_place (v / 2) i
+known_place : (v i : ℕ) → unknown_bit_of (place v i) ≡ 0
+known_place v zero = ap unknown_bit_of (places v).here ∙ known_digit (v % 2)
+known_place v (suc i) = ap unknown_bit_of ((places v).next i) ∙ known_place (v / 2) i
 
 -- what a signal of some bits has behind a change to a number
 pub quad_bits : (v w : ℕ) → v < 2 ^ w → quad_from (bits v) 0 w ≡ known_quad v
 quad_bits v w h =
-    let value : bits_from value_of (bits v) 0 w ≡ v = bits_are value_of (bits v) (λ i. value_of (place v i)) (λ i. ap value_of (digit_is v i)) 0 w ∙ whole v w h in
-    let unknown : bits_from unknown_of (bits v) 0 w ≡ 0 = bits_are unknown_of (bits v) (λ i. unknown_of (place v i)) (λ i. ap unknown_of (digit_is v i)) 0 w ∙ none (λ i. unknown_of (place v i)) (known_place v) 0 w in
+    let value : bits_from value_bit_of (bits v) 0 w ≡ v = bits_are value_bit_of (bits v) (λ i. value_bit_of (place v i)) (λ i. ap value_bit_of (digit_is v i)) 0 w ∙ whole v w h in
+    let unknown : bits_from unknown_bit_of (bits v) 0 w ≡ 0 = bits_are unknown_bit_of (bits v) (λ i. unknown_bit_of (place v i)) (λ i. ap unknown_bit_of (digit_is v i)) 0 w ∙ none (λ i. unknown_bit_of (place v i)) (known_place v) 0 w in
     λ i. record { value = value i; unknown = unknown i }

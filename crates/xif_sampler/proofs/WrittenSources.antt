@@ -8,7 +8,7 @@ use Rattle.std.proofs.lemmas.List.Elements.{filter-append}
 use Rattle.xif_base.specs.declared.params.Params.{Params}
 use Rattle.xif_signals.specs.declared.signal.Signal.{Signal}
 use Rattle.xif_signals.specs.declared.signal.Signal.TheVariants.{Clk, RstN, IssueValid, IssueReady, IssueHartid, IssueId, IssueInstr, IssueAccept, IssueWriteback, IssueRegisterRead, RegisterValid, RegisterReady, RegisterHartid, RegisterId, RegisterRs0, RegisterRs1, RegisterRs2, RegisterRsValid, CommitValid, CommitHartid, CommitId, CommitKill, ResultValid, ResultReady, ResultHartid, ResultId, ResultData, ResultRd, ResultWe}
-use Rattle.xif_signals.specs.Signal.{signals, number_of, name_of, width_of}
+use Rattle.xif_signals.specs.Signal.{signals, signal_number, name_of, width_of}
 use Rattle.vcd_text.specs.declared.declaration.Variable.{Variable}
 use Rattle.vcd_text.specs.Written.{wires, wires_of, variables_from, written_variables}
 use Rattle.vcd_text.proofs.Table.{Rise, rise-filter, signals_rise}
@@ -30,9 +30,9 @@ written_sources p k (s ∷ ss) =
 -- the number of the signal of a name
 abbrev number_named : List ℕ → List Signal → ℕ
 number_named name [] = 0
-number_named name (s ∷ ss) = cond (bytes_eq name (name_of s)) (number_of s) (number_named name ss)
+number_named name (s ∷ ss) = cond (bytes_eq name (name_of s)) (signal_number s) (number_named name ss)
 
-named_by : (s : Signal) → number_named (name_of s) signals ≡ number_of s
+named_by : (s : Signal) → number_named (name_of s) signals ≡ signal_number s
 named_by Clk = refl
 named_by RstN = refl
 named_by IssueValid = refl
@@ -63,16 +63,16 @@ named_by ResultData = refl
 named_by ResultRd = refl
 named_by ResultWe = refl
 
-apart_by : (a b : Signal) (x : Bool) → bytes_eq (name_of a) (name_of b) ≡ x → (number_of a == number_of b) ≡ false → x ≡ false
+apart_by : (a b : Signal) (x : Bool) → bytes_eq (name_of a) (name_of b) ≡ x → (signal_number a == signal_number b) ≡ false → x ≡ false
 apart_by a b true e h =
     let same : name_of a ≡ name_of b = (bytes_eq-Decides (name_of a) (name_of b)).0 e in
-    let numbers : number_of a ≡ number_of b = sym (named_by a) ∙ ap (λ n. number_named n signals) same ∙ named_by b in
-    let t : (number_of a == number_of b) ≡ true = (Decides-eqb (number_of a) (number_of b)).1 numbers in
+    let numbers : signal_number a ≡ signal_number b = sym (named_by a) ∙ ap (λ n. number_named n signals) same ∙ named_by b in
+    let t : (signal_number a == signal_number b) ≡ true = (Decides-eqb (signal_number a) (signal_number b)).1 numbers in
     absurd cc
 apart_by a b false e h = refl
 
 -- signals of different numbers have different names
-apart : (a b : Signal) → (number_of a == number_of b) ≡ false → bytes_eq (default_name a) (default_name b) ≡ false
+apart : (a b : Signal) → (signal_number a == signal_number b) ≡ false → bytes_eq (default_name a) (default_name b) ≡ false
 apart a b h = apart_by a b (bytes_eq (name_of a) (name_of b)) refl h
 
 itself : (name : List ℕ) → bytes_eq name name ≡ true
@@ -93,30 +93,30 @@ named_cons : (name : List ℕ) (v : Variable) (vs : List Variable) (x : Bool) �
 named_cons name v vs x e = ap (λ y. cond y (v ∷ named name vs) (named name vs)) e
 
 -- no signal of a greater number has the name
-named_none : (p : Params) (s : Signal) (k n : ℕ) (ss : List Signal) → number_of s < n → Rise n ss → named (default_name s) (variables_from p k ss) ≡ []
+named_none : (p : Params) (s : Signal) (k n : ℕ) (ss : List Signal) → signal_number s < n → Rise n ss → named (default_name s) (variables_from p k ss) ≡ []
 named_none p s k n [] h rise = refl
 named_none p s k n (t ∷ ss) h rise =
-    named_cons (default_name s) (variable p k t) (variables_from p (k + 1) ss) false (apart t s (less (number_of s) (number_of t) (omega (arith, rise.0))))
-    ∙ named_none p s (k + 1) (number_of t + 1) ss (omega (arith, rise.0)) rise.1
+    named_cons (default_name s) (variable p k t) (variables_from p (k + 1) ss) false (apart t s (less (signal_number s) (signal_number t) (omega (arith, rise.0))))
+    ∙ named_none p s (k + 1) (signal_number t + 1) ss (omega (arith, rise.0)) rise.1
 
 -- no signal from a number on has its name among the variables
 abbrev Fresh : ℕ → List Variable → Type 0
-Fresh n vs = (s : Signal) → n ≤ number_of s → named (default_name s) vs ≡ []
+Fresh n vs = (s : Signal) → n ≤ signal_number s → named (default_name s) vs ≡ []
 
-fresh-push : (p : Params) (k n : ℕ) (s : Signal) (vs : List Variable) → n ≤ number_of s → Fresh n vs → Fresh (number_of s + 1) (vs ++ variable p k s ∷ [])
+fresh-push : (p : Params) (k n : ℕ) (s : Signal) (vs : List Variable) → n ≤ signal_number s → Fresh n vs → Fresh (signal_number s + 1) (vs ++ variable p k s ∷ [])
 fresh-push p k n s vs le h t above =
     filter-append (λ v. bytes_eq v.name (default_name t)) vs (variable p k s ∷ [])
     ∙ ap (λ x. x ++ named (default_name t) (variable p k s ∷ [])) (h t (omega arith))
-    ∙ named_cons (default_name t) (variable p k s) [] false (apart s t (more (number_of s) (number_of t) (omega arith)))
+    ∙ named_cons (default_name t) (variable p k s) [] false (apart s t (more (signal_number s) (signal_number t) (omega arith)))
 
 -- the one variable of a signal
-named_one : (p : Params) (k n : ℕ) (s : Signal) (vs : List Variable) (ss : List Signal) → n ≤ number_of s → Fresh n vs → Rise (number_of s + 1) ss
+named_one : (p : Params) (k n : ℕ) (s : Signal) (vs : List Variable) (ss : List Signal) → n ≤ signal_number s → Fresh n vs → Rise (signal_number s + 1) ss
     → named (default_name s) (vs ++ variables_from p k (s ∷ ss)) ≡ variable p k s ∷ []
 named_one p k n s vs ss le h rise =
     filter-append (λ v. bytes_eq v.name (default_name s)) vs (variables_from p k (s ∷ ss))
     ∙ ap (λ x. x ++ named (default_name s) (variables_from p k (s ∷ ss))) (h s le)
     ∙ named_cons (default_name s) (variable p k s) (variables_from p (k + 1) ss) true (itself (default_name s))
-    ∙ ap (λ x. variable p k s ∷ x) (named_none p s (k + 1) (number_of s + 1) ss (omega arith) rise)
+    ∙ ap (λ x. variable p k s ∷ x) (named_none p s (k + 1) (signal_number s + 1) ss (omega arith) rise)
 
 any_by : (name : List ℕ) (v w : Variable) (vs ws : List Variable) (x : Bool) → bytes_eq w.name name ≡ x → (named name ws ≡ v ∷ vs → has_named name ws ≡ true) → named name (w ∷ ws) ≡ v ∷ vs → has_named name (w ∷ ws) ≡ true
 any_by name v w vs ws true e h k = rw e refl
@@ -144,9 +144,9 @@ found_in : (p : Params) (all : List Variable) (k : ℕ) (s : Signal) → named (
 found_in p all k s e =
     let w = width_of s p in
     let there : has_named (default_name s) all ≡ true = has_one (default_name s) (variable p k s) [] all e in
-    ap (source_in all s w) (default_in 29 (number_of s))
-    ∙ ap (λ x. cond ((number_of s == number_of RstN) && not x) (Ok (Fixed 1)) (bits_named all s w (default_name s) 0 None)) there
-    ∙ ap (λ x. cond x (Ok (Fixed 1)) (bits_named all s w (default_name s) 0 None)) (never (number_of s == number_of RstN))
+    ap (source_in all s w) (default_in 29 (signal_number s))
+    ∙ ap (λ x. cond ((signal_number s == signal_number RstN) && not x) (Ok (Fixed 1)) (bits_named all s w (default_name s) 0 None)) there
+    ∙ ap (λ x. cond x (Ok (Fixed 1)) (bits_named all s w (default_name s) 0 None)) (never (signal_number s == signal_number RstN))
     ∙ ap (λ vs. bits_of s w 0 None (variable_of s vs)) e
     ∙ ap (λ x. cond x (Err (Narrow s)) (Ok (Bits k 0 w))) (fits w)
 
@@ -170,9 +170,9 @@ wires_gone p s ss e = ap (λ x. cond x (s ∷ wires p ss) (wires p ss)) (gone (w
 Along : Params → List Variable → ℕ → List Signal → Type 0
 Along p all k ss = sources_along (source_of defaults all p) ss ≡ Ok (written_sources p k ss)
 
-along_by : (p : Params) (all vs : List Variable) (k n : ℕ) (s : Signal) (ss : List Signal) (x : Bool) → (width_of s p == 0) ≡ x → all ≡ vs ++ variables_from p k (wires p (s ∷ ss)) → n ≤ number_of s → Rise (number_of s + 1) ss → Fresh n vs
-    → (all ≡ vs ++ variables_from p k (wires p ss) → Fresh (number_of s + 1) vs → Along p all k ss)
-    → (all ≡ (vs ++ variable p k s ∷ []) ++ variables_from p (k + 1) (wires p ss) → Fresh (number_of s + 1) (vs ++ variable p k s ∷ []) → Along p all (k + 1) ss)
+along_by : (p : Params) (all vs : List Variable) (k n : ℕ) (s : Signal) (ss : List Signal) (x : Bool) → (width_of s p == 0) ≡ x → all ≡ vs ++ variables_from p k (wires p (s ∷ ss)) → n ≤ signal_number s → Rise (signal_number s + 1) ss → Fresh n vs
+    → (all ≡ vs ++ variables_from p k (wires p ss) → Fresh (signal_number s + 1) vs → Along p all k ss)
+    → (all ≡ (vs ++ variable p k s ∷ []) ++ variables_from p (k + 1) (wires p ss) → Fresh (signal_number s + 1) (vs ++ variable p k s ∷ []) → Along p all (k + 1) ss)
     → Along p all k (s ∷ ss)
 unfolding Along
 along_by p all vs k n s ss true e a le rise fresh without with =
@@ -182,7 +182,7 @@ along_by p all vs k n s ss true e a le rise fresh without with =
     ∙ sym (ap (λ x. Ok (cond x (Fixed 0 ∷ written_sources p k ss) (Bits k 0 (width_of s p) ∷ written_sources p (k + 1) ss))) e)
 along_by p all vs k n s ss false e a le rise fresh without with =
     let these : all ≡ vs ++ variables_from p k (s ∷ wires p ss) = a ∙ ap (λ w. vs ++ variables_from p k w) (wires_there p s ss e) in
-    let one : named (default_name s) all ≡ variable p k s ∷ [] = ap (named (default_name s)) these ∙ named_one p k n s vs (wires p ss) le fresh (rise-filter (λ t. nat_lt 0 (width_of t p)) (number_of s + 1) ss rise) in
+    let one : named (default_name s) all ≡ variable p k s ∷ [] = ap (named (default_name s)) these ∙ named_one p k n s vs (wires p ss) le fresh (rise-filter (λ t. nat_lt 0 (width_of t p)) (signal_number s + 1) ss rise) in
     next_is (source_of defaults all p s) (sources_along (source_of defaults all p) ss) (Bits k 0 (width_of s p)) (written_sources p (k + 1) ss)
     (ap (λ x. cond x (Ok (Fixed 0)) (source_in all s (width_of s p) (place_at defaults s))) e ∙ found_in p all k s one)
     (with (these ∙ sym (append_assoc vs (variable p k s ∷ []) (variables_from p (k + 1) (wires p ss)))) (fresh-push p k n s vs le fresh))
@@ -193,8 +193,8 @@ unfolding Along
 along p all vs k n [] a rise fresh = refl
 along p all vs k n (s ∷ ss) a rise fresh =
     along_by p all vs k n s ss (width_of s p == 0) refl a rise.0 rise.1 fresh
-    (λ b f. along p all vs k (number_of s + 1) ss b rise.1 f)
-    (λ b f. along p all (vs ++ variable p k s ∷ []) (k + 1) (number_of s + 1) ss b rise.1 f)
+    (λ b f. along p all vs k (signal_number s + 1) ss b rise.1 f)
+    (λ b f. along p all (vs ++ variable p k s ∷ []) (k + 1) (signal_number s + 1) ss b rise.1 f)
 
 pub sources_are : (p : Params) → sources_of defaults (written_variables p) p ≡ Ok (written_sources p 0 signals)
 unfolding sources_of wires_of Along

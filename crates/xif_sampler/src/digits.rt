@@ -1,11 +1,12 @@
-// The bits that a signal takes of the digits of a value.
+//! The bits that a signal takes of the digits of a value (IEEE 1364-2005, 18.2.1).
 ghost use Rattle.std.specs.Prelude.{◌≡◌, ◌≤◌, ◌-◌, ◌+◌, ◌^◌, length};
-ghost use Rattle.xif_sampler.specs.Digits.{filler, value_of, unknown_of, quad_from};
+ghost use Rattle.xif_sampler.specs.Digits.{filler, value_bit_of, unknown_bit_of, quad_from};
 
 use vcd_text::Digit;
-use xif_signals::Quad;
+use xif_signals::{Quad, ones_below};
 
-/// `width` bits of a value, from its bit `low` on.
+/// `width` bits of a value, from its bit `low` on, which counts from the last digit as 0. A value
+/// that is shorter is extended on the left (IEEE 1364-2005, 18.2.2).
 pub fn quad_of(digits: &[Digit], low: u32, width: u8) -> Quad
     requires { width ≤ 64 }
     ensures { result ≡ quad_from digits.now low width }
@@ -13,12 +14,12 @@ pub fn quad_of(digits: &[Digit], low: u32, width: u8) -> Quad
     let end = digits.len().saturating_sub(low as usize);
     let start = end.saturating_sub(usize::from(width));
     let mut quad = written(digits, start, end);
-    // The digit that a value is extended by is no 1.
+    // The digit that a value is extended by is never 1.
     quad.unknown += unknown_bit(filler_of(digits)) * ones((end - start) as u8, width);
     quad
 }
 
-/// The bits of the digits from `start` to `end`.
+/// The bits of the digits from `start` to before `end`.
 fn written(digits: &[Digit], start: usize, end: usize) -> Quad
     requires in_order { start ≤ end }
     requires inside { end ≤ length digits.now }
@@ -49,7 +50,7 @@ fn filler_of(digits: &[Digit]) -> Digit
 }
 
 fn value_bit(digit: Digit) -> u64
-    ensures { result ≡ value_of digit }
+    ensures { result ≡ value_bit_of digit }
 {
     match digit {
         Digit::One => 1,
@@ -58,7 +59,7 @@ fn value_bit(digit: Digit) -> u64
 }
 
 fn unknown_bit(digit: Digit) -> u64
-    ensures { result ≡ unknown_of digit }
+    ensures { result ≡ unknown_bit_of digit }
 {
     match digit {
         Digit::X | Digit::Z => 1,
@@ -73,15 +74,4 @@ fn ones(low: u8, high: u8) -> u64
     ensures { result ≡ 2 ^ high - 2 ^ low }
 {
     ones_below(high) - ones_below(low)
-}
-
-fn ones_below(high: u8) -> u64
-    requires { high ≤ 64 }
-    ensures { result ≡ 2 ^ high - 1 }
-{
-    if high == 64 {
-        u64::MAX
-    } else {
-        (1 << high) - 1
-    }
 }

@@ -1,4 +1,4 @@
-// Why a map doesn't fit the variables of a waveform.
+//! The faults of a map against the variables of a waveform.
 use std::alloc::AllocError;
 use xif_base::NoMemory;
 use xif_signals::Signal;
@@ -8,10 +8,10 @@ use xif_signals::Signal;
 pub enum MapFault {
     /// No variable of its name is declared.
     Missing(Signal),
-    /// Its name is declared under two identifier codes.
+    /// Its name is declared with two identifier codes.
     Ambiguous(Signal),
-    /// Its variable doesn't have all bits that the signal takes, or `high` is no bit of the variable or below
-    /// the last bit that the signal takes.
+    /// Its variable lacks a bit that the signal takes, or `high` is no bit of the variable, or
+    /// `high` is below the last bit that the signal takes.
     Narrow(Signal),
 }
 

@@ -1,9 +1,9 @@
-// Where the bits of each signal come from, by a map and the variables of a waveform.
+//! Finds where the bits of each signal come from, by a map and the variables of a waveform.
 ghost use Rattle.std.specs.Prelude.{◌≡◌, ◌≤◌, string_bytes, bytes_eq, Ok, Err, IfOk, MatchResult};
 ghost use Rattle.xif_base.specs.Params.{IsInRange};
 ghost use Rattle.xif_signals.specs.Signal.{width_of};
 ghost use Rattle.xif_sampler.specs.Steps.{bits_taken, AreWithin};
-ghost use Rattle.xif_sampler.specs.Places.{named, has_named, variable_of, is_narrow, bits_named, default_name, source_in, source_of, sources_along, sources_of, Gives};
+ghost use Rattle.xif_sampler.specs.Places.{named, has_named, variable_of, is_narrow, bits_named, default_name, source_in, source_of, sources_along, sources_of, FindsAs};
 
 use crate::fault::{MapFail, MapFault};
 use crate::place::{Place, SignalMap};
@@ -21,7 +21,7 @@ pub fn find_sources(
     params: &Params,
 ) -> Result<[Source; 29], MapFail>
     requires { IsInRange params.now }
-    ensures found { Gives result (sources_of map.now variables.now params.now) }
+    ensures found { FindsAs result (sources_of map.now variables.now params.now) }
     ensures within { IfOk result (λ sources. AreWithin 64 sources) }
 {
     find_along(alloc, map, variables, params, &Signal::all())
@@ -36,13 +36,13 @@ fn find_along(
     signals: &[Signal; 29],
 ) -> Result<[Source; 29], MapFail>
     requires { IsInRange params.now }
-    ensures found { Gives result
+    ensures found { FindsAs result
         (sources_along (source_of map.now variables.now params.now) signals.now) }
     ensures within { IfOk result (λ sources. AreWithin 64 sources) }
 {
     let mut sources = [Source::Fixed(0); 29];
-    for i in 0..29 {
-        sources[i] = find_source(alloc, map, variables, params, signals[i])?;
+    for (i, signal) in signals.iter().enumerate() {
+        sources[i] = find_source(alloc, map, variables, params, *signal)?;
     }
     Ok(sources)
 }
@@ -55,7 +55,7 @@ fn find_source(
     signal: Signal,
 ) -> Result<Source, MapFail>
     requires { IsInRange params.now }
-    ensures found { Gives result (source_of map.now variables.now params.now signal) }
+    ensures found { FindsAs result (source_of map.now variables.now params.now signal) }
     ensures within { IfOk result (λ source. bits_taken source ≤ 64) }
 {
     let width = signal.width(params);
@@ -73,7 +73,7 @@ fn find_place(
     width: u8,
     place: &Place,
 ) -> Result<Source, MapFail>
-    ensures found { Gives result (source_in variables.now signal width place.now) }
+    ensures found { FindsAs result (source_in variables.now signal width place.now) }
     ensures within { IfOk result (λ source. bits_taken source ≤ width) }
 {
     match place {
@@ -148,7 +148,7 @@ fn is_too_narrow(size: u32, low: u32, high: Option<u32>, width: u8) -> bool
     }
 }
 
-/// The variable of a name, which may be declared more than once under one code.
+/// The variable of a name, which may be declared more than once with one code.
 fn find_variable<'a>(
     variables: &'a [Variable],
     signal: Signal,

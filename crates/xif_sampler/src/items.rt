@@ -1,4 +1,4 @@
-// The samples of all items of a waveform at once.
+//! The samples of a whole list of items.
 ghost use Rattle.std.specs.Prelude.{◌≡◌, ◌++◌, List, [], Err, OnOk, IfOk, IfErr, IsOk};
 ghost use Rattle.std.specs.Option.{option_to_list};
 ghost use Rattle.xif_base.specs.Params.{IsInRange};
@@ -6,7 +6,7 @@ ghost use Rattle.xif_sampler.specs.declared.source.Source.{Source};
 ghost use Rattle.xif_sampler.specs.declared.fault.MapFault.{MapFault};
 ghost use Rattle.xif_sampler.specs.Places.{sources_of};
 ghost use Rattle.xif_sampler.specs.Samples.{samples_by, samples_of};
-ghost use Rattle.xif_sampler.specs.Keeping.{StandsFor};
+ghost use Rattle.xif_sampler.specs.Keeping.{Represents};
 
 use crate::fault::MapFail;
 use crate::place::SignalMap;
@@ -16,8 +16,8 @@ use vcd_text::{Declarations, Item};
 use xif_base::Params;
 use xif_signals::Sample;
 
-/// The samples of the items of a waveform, by a map and the variables that it declares. The fault is as in
-/// `Sampler::new`.
+/// The samples of the items of a waveform, by a map and the variables that it declares. The fault
+/// is as in `Sampler::new`.
 pub fn sample_items(
     alloc: Global,
     map: &SignalMap,
@@ -41,7 +41,7 @@ fn sample_all(
     mut sampler: Sampler,
     items: &[Item],
 ) -> Result<Vec<Sample>, AllocError>
-    ensures { (sources : List Source) → StandsFor sampler sources [] →
+    ensures { (sources : List Source) → Represents sampler sources [] →
         IfOk result (λ samples. samples.items ≡ samples_by sources items.now) }
 {
     let mut samples = Vec::new(alloc);

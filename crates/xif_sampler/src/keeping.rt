@@ -1,4 +1,4 @@
-// The values of the signals, as a sampler keeps them.
+//! The values of the signals that a sampler keeps.
 ghost use Rattle.std.specs.Prelude.{◌≡◌, ◌≤◌, ◌<◌, ℕ, [], true, false, map, length, slice_index_or, OnOk, IfOk};
 ghost use Rattle.xif_signals.specs.Quad.{known_quad};
 ghost use Rattle.xif_sampler.specs.Samples.{quad_by};
@@ -65,8 +65,8 @@ pub fn first_quads(sources: &[Source; 29]) -> [Quad; 29]
         value: 0,
         unknown: 0,
     }; 29];
-    for i in 0..29 {
-        quads[i] = first_quad(sources[i]);
+    for (i, source) in sources.iter().enumerate() {
+        quads[i] = first_quad(*source);
     }
     quads
 }
@@ -81,7 +81,7 @@ fn first_quad(source: Source) -> Quad
     }
 }
 
-/// The values behind a change of a code to these digits.
+/// The values after a change of a code to these digits.
 pub fn change_quads(
     quads: &mut [Quad; 29],
     sources: &[Source; 29],
@@ -94,7 +94,8 @@ pub fn change_quads(
     requires inside { readers.to ≤ 29 }
     ensures count { length quads.new ≡ 29 }
     ensures each { (i : ℕ) → i < 29 → slice_index_or quads.new i (known_quad 0)
-        ≡ changed code digits.now (source_at sources.now i) (slice_index_or quads.old i (known_quad 0)) }
+        ≡ changed code digits.now (source_at sources.now i)
+        (slice_index_or quads.old i (known_quad 0)) }
 {
     for i in usize::from(readers.from)..usize::from(readers.to) {
         quads[i] = changed_quad(sources[i], quads[i], code, digits);

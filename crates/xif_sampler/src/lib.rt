@@ -1,14 +1,15 @@
-//! The samples of a waveform: the values of the signals of the interface before each rise of the clock.
+//! The samples of a waveform: the values of the signals of the interface before each rise of the
+//! clock.
 //!
-//! A `SignalMap` says in which variables of the waveform the signals are found. A `Sampler` takes the
-//! items of the waveform in order, its times and its changes, and gives the sample of each instant in
-//! which the clock rises. `sample_items` does so with a whole list of items.
+//! A `SignalMap` says in which variables of the waveform the signals are found. A `Sampler` takes
+//! the items of the waveform in order, its times and its changes, and returns the sample of each
+//! instant in which the clock rises. `sample_items` does so for a whole list of items.
 //!
-//! The definitions stand in `specs/`: `Places` (where the bits of a signal come from, and the first fault
-//! of a map), `Digits` (what bits a value has), `Samples` (the instants of a waveform, and its samples) and
-//! `Keeping` (which history a sampler stands for). `Steps` has the words of the private contracts.
-//! `Written` says what the samples of written text are: the buses that were written, by the law of
-//! `written_buses_sample_back`.
+//! The definitions are in `specs/`: `Places` (where the bits of a signal come from, and the first
+//! fault of a map), `Digits` (the bits of a value), `Samples` (the instants of a waveform, and its
+//! samples), `Keeping` (which history a sampler represents) and `Written` (the samples of written
+//! text are the buses that were written, by the law `written_buses_sample_back`). `Steps` is
+//! internal.
 #![tactic(auto)]
 
 mod digits;

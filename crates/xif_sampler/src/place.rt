@@ -1,6 +1,6 @@
-// The places of the signals in a waveform.
+//! The places of the signals in a waveform.
 ghost use Rattle.std.specs.Prelude.{◌≡◌, slice_set};
-ghost use Rattle.xif_signals.specs.Signal.{number_of};
+ghost use Rattle.xif_signals.specs.Signal.{signal_number};
 ghost use Rattle.xif_sampler.specs.Places.{defaults, place_at};
 
 use std::marker::Model;
@@ -10,8 +10,8 @@ use xif_signals::Signal;
 /// Where a signal is found in a waveform.
 #[derive(Debug, Drop)]
 pub enum Place {
-    /// In the variable whose full name is `xif.` and the signal's name, from its bit 0 on. The reset is 1
-    /// where there is no such variable.
+    /// In the variable whose full name is `xif.` and the signal's name, from its bit 0 on. The
+    /// reset is 1 where there is no such variable.
     Default,
     /// In a variable.
     Variable {
@@ -19,17 +19,18 @@ pub enum Place {
         name: Name,
         /// The lowest bit that is taken, counted from the last digit of a value as 0.
         low: u32,
-        /// Where it is given, the highest bit that may be taken, which is to be a bit of the variable.
+        /// Where it is given, the highest bit that may be taken, which is to be a bit of the
+        /// variable.
         high: Option<u32>,
     },
-    /// Nowhere: it always has this value, as it is given, whatever the signal's width is. A signal without
-    /// bits is 0. A constant clock never rises.
+    /// Nowhere: it always has this value, of which the bits below the signal's width count. A
+    /// signal without bits is 0. A constant clock never rises.
     Constant(u64),
 }
 
 /// A place for each of the signals.
 ///
-/// It is seen as the list of the places in the order of the table.
+/// Contracts see it as the list of the places, in the order of the table.
 #[derive(Debug, Drop)]
 pub struct SignalMap {
     places: [Place; 29],
@@ -91,9 +92,9 @@ impl SignalMap {
         &self.places[usize::from(signal.number())]
     }
 
-    /// Gives a signal this place, and leaves those of the others.
+    /// FindsAs a signal this place, and leaves those of the others.
     pub fn set(&mut self, signal: Signal, place: Place)
-        ensures { self.new ≡ slice_set self.old (number_of signal) place }
+        ensures { self.new ≡ slice_set self.old (signal_number signal) place }
     {
         self.places[usize::from(signal.number())] = place;
     }

@@ -1,4 +1,4 @@
-// The sampler: it takes the items of a waveform in order.
+//! The sampler, which takes the items of a waveform in order.
 ghost use Rattle.std.specs.Prelude.{◌≡◌, List, [], ◌∷◌, drop, Ok, Err, IfOk, IsOkAnd, IfErr};
 ghost use Rattle.xif_base.specs.Params.{IsInRange};
 ghost use Rattle.vcd_text.specs.declared.item.Item.{Item};
@@ -6,9 +6,9 @@ ghost use Rattle.vcd_text.specs.declared.item.Item.TheVariants.{Time, Change};
 ghost use Rattle.xif_sampler.specs.declared.source.Source.{Source};
 ghost use Rattle.xif_sampler.specs.declared.fault.MapFault.{MapFault};
 ghost use Rattle.xif_sampler.specs.Places.{sources_of};
-ghost use Rattle.xif_sampler.specs.Samples.{is_number, sample_at, sample_by};
-ghost use Rattle.xif_sampler.specs.Keeping.{StandsFor};
-ghost use Rattle.xif_sampler.specs.Steps.{answer_to, sample_between};
+ghost use Rattle.xif_sampler.specs.Samples.{is_number, sample_at, sample_by, answer_to};
+ghost use Rattle.xif_sampler.specs.Keeping.{Represents};
+ghost use Rattle.xif_sampler.specs.Steps.{sample_between};
 
 use crate::fault::MapFail;
 use crate::find::find_sources;
@@ -21,12 +21,12 @@ use vcd_text::{Declarations, Digits, Item};
 use xif_base::Params;
 use xif_signals::{Quad, Sample, Signal};
 
-/// Takes the items of a waveform in order, and gives the sample of each instant in which the clock rises:
-/// the values of the signals from before it.
+/// Takes the items of a waveform in order, and returns the sample of each instant in which the
+/// clock rises: the values of the signals from before it.
 ///
-/// An instant lasts from a time to a greater one, or to the end; what comes before the first time is at
-/// time 0. All values are unknown at first. A value that is shorter than its variable is extended on the
-/// left (IEEE 1364-2005, 18.2.2).
+/// An instant lasts from a time to a greater one, or to the end; what comes before the first time
+/// is at time 0. Times are in units of the waveform's timescale. All values are unknown at first. A
+/// value that is shorter than its variable is extended on the left (IEEE 1364-2005, 18.2.2).
 #[derive(Debug, Drop)]
 pub struct Sampler {
     sources: [Source; 29],
@@ -51,9 +51,10 @@ impl Model for Sampler {
 }
 
 impl Sampler {
-    /// A sampler for the signals at the places of a map, among the variables that a waveform declares. The
-    /// fault is that of the first signal in the order of the table that has one. A signal without bits, by
-    /// the parameters, has none, whatever its place is. The only call that takes memory.
+    /// A sampler of the signals at the places of a map, among the variables that a waveform
+    /// declares. The fault is that of the first signal in the order of the table that has one; a
+    /// signal that has no bits by the parameters has none, whatever its place is. This is the only
+    /// call that allocates.
     pub fn new(
         alloc: Global,
         map: &SignalMap,
@@ -62,7 +63,8 @@ impl Sampler {
     ) -> Result<Sampler, MapFail>
         requires { IsInRange params.now }
         ensures ok { IfOk result (λ sampler.
-            IsOkAnd (sources_of map.now declarations.now params.now) (λ sources. StandsFor sampler sources [])) }
+            IsOkAnd (sources_of map.now declarations.now params.now)
+            (λ sources. Represents sampler sources [])) }
         ensures fault { IfErr result (λ fail. (fault : MapFault) → fail ≡ MapFail.Map fault →
             sources_of map.now declarations.now params.now ≡ Err fault) }
     {
@@ -78,11 +80,12 @@ impl Sampler {
         })
     }
 
-    /// Takes a change of the variables of a code. One of a code that no signal takes bits of changes no
-    /// sample.
+    /// Takes a change of the variables of a code. It changes no sample if no signal takes bits of
+    /// the code.
     pub fn change(&mut self, code: u32, digits: &Digits)
-        ensures { (sources : List Source) (h : List Item) → StandsFor self.old sources h →
-            StandsFor self.new sources (Change code digits.now ∷ h) }
+        ensures { (sources : List Source) (history : List Item)
+            → Represents self.old sources history
+            → Represents self.new sources (Change code digits.now ∷ history) }
     {
         let readers = find_readers(&self.readers, code);
         change_quads(
@@ -94,13 +97,14 @@ impl Sampler {
         );
     }
 
-    /// Takes a time. If it is greater than the last one, it ends the instant, and the answer is the
-    /// instant's sample where the clock rises in it.
+    /// Takes a time. One that is greater than the last ends the instant, and returns its sample if
+    /// the clock rises in it.
     pub fn time(&mut self, t: u64) -> Option<Sample>
-        ensures stands { (sources : List Source) (h : List Item) → StandsFor self.old sources h →
-            StandsFor self.new sources (Time t ∷ h) }
-        ensures sample { (sources : List Source) (h : List Item) → StandsFor self.old sources h →
-            result ≡ sample_by sources h t }
+        ensures represents { (sources : List Source) (history : List Item)
+            → Represents self.old sources history
+            → Represents self.new sources (Time t ∷ history) }
+        ensures sample { (sources : List Source) (history : List Item)
+            → Represents self.old sources history → result ≡ sample_by sources history t }
     {
         if t <= self.time {
             return None;
@@ -111,12 +115,13 @@ impl Sampler {
         sample
     }
 
-    /// Takes an item.
+    /// Takes an item, as `time` or `change` does.
     pub fn take(&mut self, item: &Item) -> Option<Sample>
-        ensures stands { (sources : List Source) (h : List Item) → StandsFor self.old sources h →
-            StandsFor self.new sources (item.now ∷ h) }
-        ensures sample { (sources : List Source) (h : List Item) → StandsFor self.old sources h →
-            result ≡ answer_to sources h item.now }
+        ensures represents { (sources : List Source) (history : List Item)
+            → Represents self.old sources history
+            → Represents self.new sources (item.now ∷ history) }
+        ensures sample { (sources : List Source) (history : List Item)
+            → Represents self.old sources history → result ≡ answer_to sources history item.now }
     {
         match item {
             Item::Time(t) => self.time(*t),
@@ -127,17 +132,17 @@ impl Sampler {
         }
     }
 
-    /// Ends the last instant: its sample, where the clock rises in it. To be called behind the last item.
+    /// Ends the last instant, after the last item, and returns its sample if the clock rises in it.
     pub fn finish(&mut self) -> Option<Sample>
-        ensures sample { (sources : List Source) (h : List Item) → StandsFor self.old sources h →
-            result ≡ sample_at sources h }
+        ensures sample { (sources : List Source) (history : List Item)
+            → Represents self.old sources history → result ≡ sample_at sources history }
         ensures same { self.new ≡ self.old }
     {
         sample_of(&self.was, &self.now)
     }
 }
 
-/// The sample of an instant, by the values before it and behind it.
+/// The sample of an instant, by the values before it and after it.
 fn sample_of(was: &[Quad; 29], now: &[Quad; 29]) -> Option<Sample>
     ensures { result ≡ sample_between was.now now.now }
 {

@@ -1,13 +1,13 @@
 use Rattle.std.proofs.Common.{◌≡◌, ◌∙◌, ◌∷◌, map, sym, ap, subst, arith}
 use Rattle.vcd_text.specs.declared.item.Item.TheVariants.{Change}
 use Rattle.xif_sampler.specs.Samples.{quad_by}
-use Rattle.xif_sampler.specs.Keeping.{Sampling, StandsFor}
+use Rattle.xif_sampler.specs.Keeping.{Sampling, Represents}
 use Rattle.xif_sampler.proofs.History.{read}
 use Rattle.xif_sampler.proofs.sampler.Sampler.change.Goals as goal
 
 pub returns : goal.returns
 returns c = λ sources h p.
-    let P : Sampling → Type 0 = λ x. StandsFor x sources h in
+    let P : Sampling → Type 0 = λ x. Represents x sources h in
     let s = subst P (sym c.self.view_is) p in
     let code = c.args.code in
     let quads = c.change_quads.new.quads in
