@@ -1,5 +1,5 @@
 -- Names of a table, and bytes that are text.
-use Rattle.std.proofs.Common.{◌≡◌, ◌≤◌, ◌^◌, List, [], ◌∷◌, Bool, true, false, cond, ◌&&◌, ◌||◌, map, Bor, refl, ap, String, string_bytes, ℕ, suc, min, length, is_some, arith, None}
+use Rattle.std.proofs.Common.{◌≡◌, ◌≤◌, ◌^◌, List, [], ◌∷◌, Bool, true, false, if◌then◌else◌, ◌&&◌, ◌||◌, map, Bor, refl, ap, String, string_bytes, ℕ, suc, min, length, is_some, arith, None}
 use Rattle.std.specs.declared.alloc.Global.{Global}
 use Rattle.std.specs.List.{list_all, list_any}
 use Rattle.std.specs.Str.{bytes_eq, IsUtf8, is_utf8}
@@ -42,8 +42,8 @@ not_true false h = refl
 
 -- bytes that are no text are no document
 pub no_text : (bytes : List ℕ) → ¬ (IsUtf8 bytes) → document_of bytes ≡ None
-no_text bytes n = ap (λ b. cond b (parse_document bytes) None) (not_true (is_utf8 bytes) (λ h. n (IsUtf8-from_is_utf8 bytes h)))
+no_text bytes n = ap (λ b. if b then parse_document bytes else None) (not_true (is_utf8 bytes) (λ h. n (IsUtf8-from_is_utf8 bytes h)))
 
 -- text is what it is parsed as
 pub is_text : (bytes : List ℕ) → IsUtf8 bytes → document_of bytes ≡ parse_document bytes
-is_text bytes h = ap (λ b. cond b (parse_document bytes) None) (is_utf8-from_IsUtf8 bytes h)
+is_text bytes h = ap (λ b. if b then parse_document bytes else None) (is_utf8-from_IsUtf8 bytes h)

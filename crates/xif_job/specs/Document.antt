@@ -1,9 +1,9 @@
 -- The bytes of a job file as TOML.
-use Rattle.std.specs.Prelude.{ℕ, cond, List, Option, None}
+use Rattle.std.specs.Prelude.{ℕ, if◌then◌else◌, List, Option, None}
 use Rattle.std.specs.Str.{is_utf8}
 use Rattle.toml.specs.Data.{Members}
 use Rattle.toml.specs.Parse.{parse_document}
 
 -- the table that the bytes of a file are as TOML, which is text
 abbrev pub document_of : List ℕ → Option Members
-document_of bytes = cond (is_utf8 bytes) (parse_document bytes) None
+document_of bytes = if is_utf8 bytes then parse_document bytes else None

@@ -1,43 +1,42 @@
--- The fields of a job file: a line for each, in the order in which they are read, with its range and its default. The order
--- of the lines is the order in which faults are told. A default is None where the field is needed. The signals have one line
--- for all, over their own table.
-use Rattle.std.specs.Prelude.{◌+◌, ◌-◌, ◌^◌, ◌==◌, ◌||◌, ℕ, Bool, true, false, not, cond, List, [], ◌∷◌, map, Option, Some, None, is_some, Result, Ok, Err, nat_le, min, codes}
+-- The fields of a job file: a line for each, with its kind, its field, its range, what it is where it is absent, and where its
+-- value stands. The order of the lines is the order in which faults are reported. Where a line depends on earlier fields, it
+-- follows them. The signals have one line for all, over their own table.
+use Rattle.std.specs.Prelude.{◌+◌, ◌-◌, ◌^◌, ◌==◌, ◌||◌, ℕ, Bool, not, if◌then◌else◌, List, [], ◌∷◌, map, Option, Some, None, is_some, Result, Ok, Err, nat_le, min, codes}
+use Rattle.std.specs.Option.{ok_or}
+use Rattle.std.specs.Str.{bytes_eq}
 use Rattle.toml.specs.Data.{Data, string, integer, Members, get_member}
 use Rattle.xif_base.specs.Checks.{first_fault}
 use Rattle.xif_base.specs.Params.{ranges}
 use Rattle.xif_base.specs.declared.params.ParamFault.{ParamFault}
 use Rattle.xif_base.specs.declared.params.Params.{Params}
+use Rattle.coproc_config.specs.Check.{checks}
 use Rattle.coproc_config.specs.Set.{UnitTable}
 use Rattle.coproc_config.specs.declared.check.SetFault.{SetFault}
 use Rattle.coproc_config.specs.declared.operation.Entry.{Entry}
-use Rattle.coproc_config.specs.declared.operation.Op.{Op}
-use Rattle.coproc_config.specs.declared.operation.Op.TheVariants as ops
 use Rattle.xif_signals.specs.Signal.{signals, number_of, name_of, width_of}
 use Rattle.xif_signals.specs.declared.signal.Signal.{Signal}
 use Rattle.xif_signals.specs.declared.signal.Signal.TheVariants.{Clk}
 use Rattle.xif_sampler.specs.declared.place.Place.{Place}
 use Rattle.xif_sampler.specs.declared.place.Place.TheVariants as places
-use Rattle.xif_job.specs.Field.{param_field}
 use Rattle.xif_job.specs.declared.field.Field.TheVariants as fields
 use Rattle.xif_job.specs.declared.field.JobFault.{JobFault}
 use Rattle.xif_job.specs.declared.field.JobFault.TheVariants.{NotToml, WrongKind, OutOfRange, UnknownField, Unbuilt}
 use Rattle.xif_job.specs.declared.field.JobFault.TheVariants as faults
+use Rattle.xif_job.specs.declared.readers.Absent.TheVariants.{Default, Missing}
 use Rattle.xif_job.specs.declared.memory.MemoryRange.{MemoryRange}
 use Rattle.xif_job.specs.declared.image.Image.{Image}
-use Rattle.xif_job.specs.declared.image.ImageKind.{ImageKind}
-use Rattle.xif_job.specs.declared.image.ImageKind.TheVariants.{Text, Raw}
+use Rattle.xif_job.specs.declared.image.ImageKind.TheVariants as images
 use Rattle.xif_job.specs.declared.core_table.Core.{Core}
-use Rattle.xif_job.specs.declared.core_table.Kind.{Kind}
-use Rattle.xif_job.specs.declared.core_table.Kind.TheVariants as kinds
-use Rattle.xif_job.specs.declared.core_table.KindName.{KindName}
-use Rattle.xif_job.specs.declared.core_table.KindName.TheVariants as names
-use Rattle.coproc_config.specs.Check.{checks}
-use Rattle.std.specs.Option.{ok_or}
-use Rattle.std.specs.Str.{bytes_eq}
-use Rattle.xif_job.specs.Document.{document_of}
+use Rattle.xif_job.specs.declared.predictor.Kind.{Kind}
+use Rattle.xif_job.specs.declared.predictor.Kind.TheVariants as kinds
+use Rattle.xif_job.specs.declared.predictor.KindName.{KindName}
+use Rattle.xif_job.specs.declared.predictor.KindName.TheVariants as names
 use Rattle.xif_job.specs.declared.job.Job.{Job}
+use Rattle.xif_job.specs.Document.{document_of}
+use Rattle.xif_job.specs.Field.{param_field}
 use Rattle.xif_job.specs.Outcome.{◌>>=◌, unless}
-use Rattle.xif_job.specs.Readers.{demand, number_in, word_in, optional_in, port_width_in, flag_in, text_in, any_text_in, choice_in, numbers_in, each, array_in, are_known, table_in}
+use Rattle.xif_job.specs.Readers.{◌at◌, ◌to◌, demand, integer_in, number_in, word_in, optional_in, port_width_in, flag_in, text_in, any_text_in, choice_in, numbers_in, each, array_in, are_known, table_in}
+use Rattle.xif_job.specs.Words.{image_kinds, predictors, operations}
 
 abbrev pub params_names : List (List ℕ)
 params_names =
@@ -59,16 +58,16 @@ checked p (Err e) = Err (OutOfRange (param_field e))
 
 unfoldable pub params_of : Members → Result Params JobFault
 params_of top = do
-  t ← table_in fields.ParamsNumRs params_names (get_member (codes "params") top)
-  num_rs ← number_in fields.ParamsNumRs 2 3 (Some 2) (get_member (codes "x_num_rs") t)
-  id_width ← number_in fields.ParamsIdWidth 3 12 (Some 3) (get_member (codes "x_id_width") t)
-  rfr_width ← port_width_in fields.ParamsRfrWidth (get_member (codes "x_rfr_width") t)
-  rfw_width ← port_width_in fields.ParamsRfwWidth (get_member (codes "x_rfw_width") t)
-  num_harts ← number_in fields.ParamsNumHarts 1 4 (Some 1) (get_member (codes "x_num_harts") t)
-  hartid_width ← number_in fields.ParamsHartidWidth 1 8 (Some 1) (get_member (codes "x_hartid_width") t)
-  dual_read ← number_in fields.ParamsDualRead 0 3 (Some 0) (get_member (codes "x_dualread") t)
-  dual_write ← flag_in fields.ParamsDualWrite false (get_member (codes "x_dualwrite") t)
-  split ← flag_in fields.ParamsIssueRegisterSplit true (get_member (codes "x_issue_register_split") t)
+  t ← table_in fields.ParamsNumRs params_names (top at "params")
+  num_rs ← number_in fields.ParamsNumRs (2 to 3) (Default 2) (t at "x_num_rs")
+  id_width ← number_in fields.ParamsIdWidth (3 to 12) (Default 3) (t at "x_id_width")
+  rfr_width ← port_width_in fields.ParamsRfrWidth (Default 32) (t at "x_rfr_width")
+  rfw_width ← port_width_in fields.ParamsRfwWidth (Default 32) (t at "x_rfw_width")
+  num_harts ← number_in fields.ParamsNumHarts (1 to 4) (Default 1) (t at "x_num_harts")
+  hartid_width ← number_in fields.ParamsHartidWidth (1 to 8) (Default 1) (t at "x_hartid_width")
+  dual_read ← number_in fields.ParamsDualRead (0 to 3) (Default 0) (t at "x_dualread")
+  dual_write ← flag_in fields.ParamsDualWrite (Default 0) (t at "x_dualwrite")
+  split ← flag_in fields.ParamsIssueRegisterSplit (Default 1) (t at "x_issue_register_split")
   let p : Params = record {
     num_rs = num_rs;
     id_width = id_width;
@@ -81,79 +80,57 @@ params_of top = do
     split = split;
   } in checked p (first_fault (ranges p))
 
+abbrev pub memory_names : List (List ℕ)
+memory_names = codes "base" ∷ codes "size" ∷ []
+
 unfoldable pub memory_of : Members → Result MemoryRange JobFault
 memory_of top = do
-  t ← table_in fields.MemoryBase (codes "base" ∷ codes "size" ∷ []) (get_member (codes "memory") top)
-  base ← word_in fields.MemoryBase 0 (2 ^ 32 - 4) (Some 0) (get_member (codes "base") t)
-  size ← word_in fields.MemorySize 4 1048576 (Some 65536) (get_member (codes "size") t)
+  t ← table_in fields.MemoryBase memory_names (top at "memory")
+  base ← word_in fields.MemoryBase (0 to 2 ^ 32 - 4) (Default 0) (t at "base")
+  size ← word_in fields.MemorySize (4 to 1048576) (Default 65536) (t at "size")
   _ ← demand fields.MemorySize (nat_le (base + size) (2 ^ 32))
   Ok (record { base = base; size = size })
 
-abbrev pub image_file_of : Bool → Option Data → Result (List ℕ) JobFault
-image_file_of needs_image found = text_in fields.ImageFile (cond needs_image None (Some [])) found
+abbrev pub image_names : List (List ℕ)
+image_names = codes "file" ∷ codes "kind" ∷ codes "load" ∷ codes "entry" ∷ []
 
-abbrev pub image_kind_of : Option Data → Result ImageKind JobFault
-image_kind_of found = choice_in fields.ImageKind ((codes "text", Text) ∷ (codes "raw", Raw) ∷ []) (Some Text) found
+-- the name of the image's file, which is empty where none is needed and none is given
+abbrev pub file_in : Bool → Option Data → Result (List ℕ) JobFault
+file_in needs_image found = text_in fields.ImageFile (if needs_image then Missing else Default []) found
 
 unfoldable pub image_of : Bool → ℕ → Members → Result Image JobFault
 image_of needs_image base top = do
-  t ← table_in fields.ImageFile (codes "file" ∷ codes "kind" ∷ codes "load" ∷ codes "entry" ∷ []) (get_member (codes "image") top)
-  file ← image_file_of needs_image (get_member (codes "file") t)
-  kind ← image_kind_of (get_member (codes "kind") t)
-  load ← number_in fields.ImageLoad 0 (2 ^ 32 - 1) (Some base) (get_member (codes "load") t)
-  entry ← word_in fields.ImageEntry 0 (2 ^ 32 - 4) (Some base) (get_member (codes "entry") t)
+  t ← table_in fields.ImageFile image_names (top at "image")
+  file ← file_in needs_image (t at "file")
+  kind ← choice_in fields.ImageKind image_kinds (Default images.Text) (t at "kind")
+  load ← number_in fields.ImageLoad (0 to 2 ^ 32 - 1) (Default base) (t at "load")
+  entry ← word_in fields.ImageEntry (0 to 2 ^ 32 - 4) (Default base) (t at "entry")
   Ok (record { source = record { file = file; kind = kind; load = load }; entry = entry })
 
-abbrev pub predictor_of : Option Data → Result KindName JobFault
-predictor_of found =
-    let predictors : List (List ℕ × KindName) =
-    (codes "never", names.Never)
-    ∷ (codes "backward", names.Backward)
-    ∷ (codes "bimodal", names.Bimodal)
-    ∷ (codes "listed", names.Listed)
-    ∷ []
-    in choice_in fields.CorePredictor predictors (Some names.Never) found
-
+-- a predictor has the bits or the targets if its kind wants them
 abbrev pub kind_of : KindName → ℕ → List ℕ → Kind
 kind_of names.Never bits targets = kinds.Never
 kind_of names.Backward bits targets = kinds.Backward
 kind_of names.Bimodal bits targets = kinds.Bimodal bits
 kind_of names.Listed bits targets = kinds.Listed targets
 
+unfoldable pub predictor_of : Members → Result Kind JobFault
+predictor_of t = do
+  name ← choice_in fields.CorePredictor predictors (Default names.Never) (t at "predictor")
+  bits ← number_in fields.CoreBits (1 to 12) (Default 8) (t at "bits")
+  targets ← numbers_in fields.CoreTargets (1 to 64) (0 to 2 ^ 32 - 1) (Default (0 ∷ [])) (t at "targets")
+  Ok (kind_of name bits targets)
+
 abbrev pub core_names : List (List ℕ)
 core_names = codes "window" ∷ codes "budget" ∷ codes "predictor" ∷ codes "bits" ∷ codes "targets" ∷ []
 
 unfoldable pub core_of : ℕ → Members → Result Core JobFault
 core_of id_width top = do
-  t ← table_in fields.CoreWindow core_names (get_member (codes "core") top)
-  window ← number_in fields.CoreWindow 1 (min 32 (2 ^ id_width)) (Some 8) (get_member (codes "window") t)
-  budget ← number_in fields.CoreBudget 1 200000 (Some 10000) (get_member (codes "budget") t)
-  name ← predictor_of (get_member (codes "predictor") t)
-  bits ← number_in fields.CoreBits 1 12 (Some 8) (get_member (codes "bits") t)
-  targets ← numbers_in fields.CoreTargets 1 64 (2 ^ 32 - 1) (get_member (codes "targets") t)
-  Ok (record { window = window; budget = budget; predictor = kind_of name bits targets })
-
-abbrev pub operation_of : Option Data → Result Op JobFault
-operation_of found =
-    let operations : List (List ℕ × Op) =
-    (codes "extract_u", ops.ExtractU)
-    ∷ (codes "extract_s", ops.ExtractS)
-    ∷ (codes "insert", ops.Insert)
-    ∷ (codes "reverse", ops.Reverse)
-    ∷ (codes "ones", ops.Ones)
-    ∷ (codes "merge", ops.Merge)
-    ∷ (codes "acc_clear", ops.AccClear)
-    ∷ (codes "acc_add", ops.AccAdd)
-    ∷ (codes "acc_mac", ops.AccMac)
-    ∷ (codes "acc_read_low", ops.AccReadLow)
-    ∷ (codes "acc_read_high", ops.AccReadHigh)
-    ∷ (codes "acc_swap", ops.AccSwap)
-    ∷ (codes "pair_add", ops.PairAdd)
-    ∷ (codes "pair_mul", ops.PairMul)
-    ∷ (codes "pair_read", ops.PairRead)
-    ∷ (codes "pair_sum", ops.PairSum)
-    ∷ []
-    in choice_in fields.UnitEntryOp operations None found
+  t ← table_in fields.CoreWindow core_names (top at "core")
+  window ← number_in fields.CoreWindow (1 to min 32 (2 ^ id_width)) (Default 8) (t at "window")
+  budget ← number_in fields.CoreBudget (1 to 200000) (Default 10000) (t at "budget")
+  predictor ← predictor_of t
+  Ok (record { window = window; budget = budget; predictor = predictor })
 
 abbrev pub entry_names : List (List ℕ)
 entry_names = codes "mask" ∷ codes "match" ∷ codes "op" ∷ codes "acc" ∷ codes "low" ∷ codes "len" ∷ []
@@ -162,40 +139,43 @@ entry_names = codes "mask" ∷ codes "match" ∷ codes "op" ∷ codes "acc" ∷ 
 unfoldable pub entry_in : Data → Result Entry JobFault
 entry_in d = do
   t ← table_in fields.UnitEntry entry_names (Some d)
-  mask ← number_in fields.UnitEntryMask 0 (2 ^ 32 - 1) None (get_member (codes "mask") t)
-  matched ← number_in fields.UnitEntryMatch 0 (2 ^ 32 - 1) None (get_member (codes "match") t)
-  op ← operation_of (get_member (codes "op") t)
-  acc ← number_in fields.UnitEntryAcc 0 15 (Some 0) (get_member (codes "acc") t)
-  low ← number_in fields.UnitEntryLow 0 31 (Some 0) (get_member (codes "low") t)
-  len ← number_in fields.UnitEntryLen 1 32 (Some 32) (get_member (codes "len") t)
+  mask ← number_in fields.UnitEntryMask (0 to 2 ^ 32 - 1) Missing (t at "mask")
+  matched ← number_in fields.UnitEntryMatch (0 to 2 ^ 32 - 1) Missing (t at "match")
+  op ← choice_in fields.UnitEntryOp operations Missing (t at "op")
+  acc ← number_in fields.UnitEntryAcc (0 to 15) (Default 0) (t at "acc")
+  low ← number_in fields.UnitEntryLow (0 to 31) (Default 0) (t at "low")
+  len ← number_in fields.UnitEntryLen (1 to 32) (Default 32) (t at "len")
   Ok (record { mask = mask; matched = matched; op = op; acc = acc; low = low; len = len })
+
+abbrev pub unit_names : List (List ℕ)
+unit_names = codes "accumulators" ∷ codes "entry" ∷ []
 
 -- an item of `unit`
 unfoldable pub unit_in : Data → Result UnitTable JobFault
 unit_in d = do
-  t ← table_in fields.Unit (codes "accumulators" ∷ codes "entry" ∷ []) (Some d)
-  accumulators ← number_in fields.UnitAccumulators 0 16 (Some 0) (get_member (codes "accumulators") t)
-  entries ← array_in fields.UnitEntry (get_member (codes "entry") t) >>= each entry_in
+  t ← table_in fields.Unit unit_names (Some d)
+  accumulators ← number_in fields.UnitAccumulators (0 to 16) (Default 0) (t at "accumulators")
+  entries ← array_in fields.UnitEntry (t at "entry") >>= each entry_in
   Ok (record { accumulators = accumulators; entries = entries })
 
 unfoldable pub units_of : Members → Result (List UnitTable) JobFault
-units_of top = array_in fields.Unit (get_member (codes "unit") top) >>= each unit_in
+units_of top = array_in fields.Unit (top at "unit") >>= each unit_in
 
 -- Bits of a variable, by a table. The name may be empty, and `high` may be below `low`: whether a waveform has such bits is
--- told only where one is read.
+-- reported only where one is read.
 unfoldable pub bits_in : Signal → Data → Result Place JobFault
 bits_in s d = do
   t ← table_in (fields.Map s) (codes "var" ∷ codes "low" ∷ codes "high" ∷ []) (Some d)
-  name ← any_text_in (fields.Map s) (get_member (codes "var") t)
-  low ← number_in (fields.Map s) 0 1048575 (Some 0) (get_member (codes "low") t)
-  high ← optional_in (fields.Map s) 0 1048575 (get_member (codes "high") t)
+  name ← any_text_in (fields.Map s) (t at "var")
+  low ← number_in (fields.Map s) (0 to 1048575) (Default 0) (t at "low")
+  high ← optional_in (fields.Map s) (0 to 1048575) (t at "high")
   Ok (places.Variable name low high)
 
 -- a constant that the signal's bits hold; the clock has none, since it has to rise
 unfoldable pub constant_in : Params → Signal → Data → Result Place JobFault
 constant_in p s d = do
   _ ← unless (not (number_of s == number_of Clk)) (WrongKind (fields.Map s))
-  value ← number_in (fields.Map s) 0 (2 ^ width_of s p - 1) None (Some d)
+  value ← integer_in (fields.Map s) (0 to 2 ^ width_of s p - 1) d
   Ok (places.Constant value)
 
 -- the place of a signal, by what stands at its name; what is neither text nor integer has to be a table
@@ -208,12 +188,13 @@ place_in p s (Some d) = bits_in s d
 -- the places of signals, each read in its turn
 abbrev pub places_in : Params → Members → List Signal → Result (List Place) JobFault
 places_in p t [] = Ok []
-places_in p t (s ∷ ss) = place_in p s (get_member (name_of s) t) >>= λ x. places_in p t ss >>= λ xs. Ok (x ∷ xs)
+places_in p t (s ∷ ss) =
+    place_in p s (get_member (name_of s) t) >>= λ x. places_in p t ss >>= λ xs. Ok (x ∷ xs)
 
 -- the places of all signals, in the order of their table
 unfoldable pub map_of : Params → Members → Result (List Place) JobFault
 map_of p top = do
-  t ← table_in (fields.Map Clk) (map name_of signals) (get_member (codes "map") top)
+  t ← table_in (fields.Map Clk) (map name_of signals) (top at "map")
   places_in p t signals
 
 -- the first fault of the units as a set
@@ -255,12 +236,12 @@ job_of needs_image top = do
 
 -- a table at the top level is one that is not read yet
 abbrev pub is_unbuilt : Members → Bool
-is_unbuilt top =
-    is_some (get_member (codes "script") top) || is_some (get_member (codes "trace") top)
+is_unbuilt top = is_some (top at "script") || is_some (top at "trace")
 
 abbrev pub table_names : List (List ℕ)
 table_names = codes "params" ∷ codes "memory" ∷ codes "image" ∷ codes "core" ∷ codes "unit" ∷ codes "map" ∷ []
 
+-- the tables at the top level
 abbrev pub all_of : Bool → Members → Result Job JobFault
 all_of needs_image top = do
   _ ← unless (not (is_unbuilt top)) Unbuilt

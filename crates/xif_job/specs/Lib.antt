@@ -1,6 +1,7 @@
 pub mod Field
 pub mod Outcome
 pub mod Readers
+pub mod Words
 pub mod Tables
 pub mod Document
 pub mod FieldTable

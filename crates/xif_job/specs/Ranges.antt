@@ -1,5 +1,8 @@
 -- The ranges that the fields of a job keep.
 use Rattle.std.specs.Prelude.{◌≡◌, ◌≤◌, ◌+◌, ◌%◌, ◌^◌, ℕ}
+use Rattle.coproc_config.specs.Check.{IsLawful}
+use Rattle.xif_base.specs.Params.{IsInRange}
+use Rattle.xif_job.specs.declared.job.Job.{Job}
 
 -- a memory's first address and its size, in bytes
 pub record IsLawfulMemory (base size : ℕ) : Type 0 where
@@ -19,3 +22,12 @@ pub record IsLawfulWindow (id_width window : ℕ) : Type 0 where
 pub record IsLawfulBudget (budget : ℕ) : Type 0 where
   pub at_least : 1 ≤ budget
   pub at_most : budget ≤ 200000
+
+-- what holds of every job that is read
+pub record IsLawfulJob (job : Job) : Type 0 where
+  pub in_range : IsInRange job.params
+  pub lawful : IsLawful job.set
+  pub memory : IsLawfulMemory job.base job.size
+  pub entry : job.entry % 4 ≡ 0
+  pub window : IsLawfulWindow job.params.id_width job.window
+  pub budget : IsLawfulBudget job.budget

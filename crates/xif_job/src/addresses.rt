@@ -1,11 +1,11 @@
-// A list of addresses.
+//! A list of addresses.
 ghost use Rattle.std.specs.Prelude.{◌≡◌, ◌<◌, ◌++◌, [], ◌∷◌, Some, length, slice_get, OnOk, OnErr};
 
 use std::alloc::Global;
 use std::marker::Model;
 use xif_base::NoMemory;
 
-/// A list of addresses, in bytes.
+/// A list of addresses, in bytes. It is seen as the list of their numbers.
 #[derive(Debug, Drop)]
 pub struct Addresses {
     items: Vec<u32>,
@@ -20,6 +20,7 @@ impl Model for Addresses {
 }
 
 impl Addresses {
+    /// The list of no addresses.
     pub fn new(alloc: Global) -> Addresses
         ensures { result ≡ [] }
     {
@@ -28,7 +29,7 @@ impl Addresses {
         }
     }
 
-    /// Adds an address at the end.
+    /// Adds an address at the end. Where memory runs out the list stays as it was.
     pub fn push(&mut self, address: u32) -> Result<(), NoMemory>
         ensures ok { OnOk result (self.new ≡ self.old ++ address ∷ []) }
         ensures err { OnErr result (self.new ≡ self.old) }
@@ -37,12 +38,14 @@ impl Addresses {
         Ok(())
     }
 
+    /// How many addresses there are.
     pub fn len(&self) -> usize
         ensures { result ≡ length self.now }
     {
         self.items.len()
     }
 
+    /// The address at an index, counted from 0.
     pub fn get(&self, i: usize) -> &u32
         requires { i < length self.now }
         ensures { slice_get self.now i ≡ Some result.now }

@@ -1,4 +1,4 @@
-// The fields of a job file, and what is wrong with one.
+//! The fields of a job file, and what is wrong with one.
 ghost use Rattle.std.specs.Prelude.{◌≡◌, ◌++◌, codes};
 ghost use Rattle.xif_signals.specs.Signal.{name_of};
 ghost use Rattle.xif_job.specs.Field.{dotted, param_field};
@@ -8,7 +8,7 @@ use std::alloc::{AllocError, AllocFailed};
 use xif_base::{NoMemory, ParamFault};
 use xif_signals::Signal;
 
-/// A field of a job file. An array of tables is a field too.
+/// A field of a job file, or an array of tables. `name` says how the file has it.
 #[derive(Clone, Copy, Debug, PartialEq, Eq)]
 pub enum Field {
     ParamsNumRs,
@@ -51,17 +51,19 @@ pub enum Field {
 pub enum JobFault {
     /// The bytes are no TOML, which is text in UTF-8.
     NotToml,
-    /// A field that is needed is absent.
+    /// A field that must be there is absent.
     MissingField(Field),
-    /// A field is of another kind of value. A table of another kind is told at its first field.
+    /// A field is of another kind of value. Where a table should stand and another kind of value does, it is
+    /// reported at the table's first field, and for an item of an array at the array.
     WrongKind(Field),
-    /// A field has a value of its kind that it can't have.
+    /// A field has a value of its kind that it can't have, alone or together with earlier fields. A field
+    /// that is absent may be reported so too, where its default can't stand beside a value that is given.
     OutOfRange(Field),
     /// A name at the top level or in a table is none that may stand there.
     UnknownField,
     /// The units, all of whose fields are in their ranges, are no lawful set.
     Set(SetFault),
-    /// There was no memory left.
+    /// The program is out of memory.
     NoMemory,
     /// The job has a table that is not read yet: `script` or `trace`.
     Unbuilt,
@@ -101,7 +103,8 @@ impl From<NoMemory> for JobFault {
 }
 
 impl Field {
-    /// The name with a dot, as `memory.base`.
+    /// Its name behind those of its tables, with dots, as `memory.base`. A signal's is that of its place, as
+    /// `map.clk`.
     pub fn name(&self) -> &'static str
         ensures { result.now ≡ dotted self.now }
     {

@@ -1,15 +1,14 @@
-// The places of the signals in a waveform, as a job gives them.
-ghost use Rattle.std.specs.Prelude.{◌≡◌, ◌≤◌, ◌-◌, ◌^◌, codes, map, option_map};
-ghost use Rattle.toml.specs.Data.{get_member};
+//! The table `map` of a job: where the signals are found in a waveform.
+ghost use Rattle.std.specs.Prelude.{◌≡◌, ◌≤◌, ◌-◌, ◌^◌, codes, map};
 ghost use Rattle.toml.specs.View.{table_view, view};
 ghost use Rattle.xif_base.specs.Params.{IsInRange};
 ghost use Rattle.xif_signals.specs.Signal.{signals, name_of};
 ghost use Rattle.xif_job.specs.FieldTable.{bits_in, constant_in, place_in, places_in, map_of};
-ghost use Rattle.xif_job.specs.Outcome.{Gives};
-ghost use Rattle.xif_job.specs.Readers.{table_in};
-ghost use Rattle.xif_job.specs.Tables.{members};
+ghost use Rattle.xif_job.specs.Outcome.{ReadsAs};
+ghost use Rattle.xif_job.specs.Readers.{◌at◌, table_in};
+ghost use Rattle.xif_job.specs.Tables.{members, data_of, texts_of};
 
-use crate::readers::{any_text, find, number, number_u64, optional, table};
+use crate::readers::{Absent, Range, any_text, find, integer, number_u32, optional, table};
 use crate::{Field, JobFault};
 use std::alloc::Global;
 use toml::{Table, Value};
@@ -17,14 +16,17 @@ use xif_base::{Name, Params};
 use xif_sampler::{Place, SignalMap};
 use xif_signals::Signal;
 
-/// The highest bit of a variable that may be named.
-const LAST_BIT: u32 = 1_048_575;
+/// The bits of a variable that may be named.
+const BITS: Range = Range {
+    low: 0,
+    high: 1_048_575,
+};
 
 /// The table `map`. The parameters say how many bits a constant may have.
 #[tactic(auto, unfolding(crate::specs::FieldTable::map_of))]
 pub(crate) fn read_map(alloc: Global, top: &Table, params: &Params) -> Result<SignalMap, JobFault>
     requires { IsInRange params.now }
-    ensures { Gives (λ m. m) result (map_of params.now (table_view top.now)) }
+    ensures { ReadsAs (λ m. m) result (map_of params.now (table_view top.now)) }
 {
     let table = find_map(top)?;
     read_places(alloc, table, params)
@@ -32,7 +34,8 @@ pub(crate) fn read_map(alloc: Global, top: &Table, params: &Params) -> Result<Si
 
 /// The table `map` itself, which has the names of signals and no others.
 fn find_map(top: &Table) -> Result<Option<&Table>, JobFault>
-    ensures { Gives members result (table_in (Field.Map Signal.Clk) (map name_of signals) (get_member (codes "map") (table_view top.now))) }
+    ensures { ReadsAs members result
+        (table_in (Field.Map Signal.Clk) (map name_of signals) (table_view top.now at "map")) }
 {
     let names = names();
     let found = find(Some(top), "map");
@@ -41,7 +44,7 @@ fn find_map(top: &Table) -> Result<Option<&Table>, JobFault>
 
 /// The names of the signals.
 fn names() -> [&'static str; 29]
-    ensures { map (λ n. n.now) result ≡ map name_of signals }
+    ensures { texts_of result ≡ map name_of signals }
 {
     let signals = Signal::all();
     let mut names = [""; 29];
@@ -53,13 +56,13 @@ fn names() -> [&'static str; 29]
 
 fn read_places(alloc: Global, table: Option<&Table>, params: &Params) -> Result<SignalMap, JobFault>
     requires { IsInRange params.now }
-    ensures { Gives (λ m. m) result (places_in params.now (members table.entry) signals) }
+    ensures { ReadsAs (λ m. m) result (places_in params.now (members table.entry) signals) }
 {
     let signals = Signal::all();
     let mut map = SignalMap::new();
-    for i in 0..29 {
-        let found = find(table, signals[i].name());
-        map.set(signals[i], read_place(alloc, signals[i], params, found)?);
+    for signal in &signals {
+        let found = find(table, signal.name());
+        map.set(*signal, read_place(alloc, *signal, params, found)?);
     }
     Ok(map)
 }
@@ -72,7 +75,7 @@ fn read_place(
     value: Option<&Value>,
 ) -> Result<Place, JobFault>
     requires { IsInRange params.now }
-    ensures { Gives (λ p. p) result (place_in params.now signal (option_map (λ v. view v.now) value.entry)) }
+    ensures { ReadsAs (λ p. p) result (place_in params.now signal (data_of value.entry)) }
 {
     let Some(value) = value else {
         return Ok(Place::Default);
@@ -99,8 +102,11 @@ fn read_constant(signal: Signal, params: &Params, value: &Value) -> Result<Place
     if signal == Signal::Clk {
         return Err(JobFault::WrongKind(field));
     }
-    let number = number_u64(field, largest(signal.width(params)), value)?;
-    Ok(Place::Constant(number))
+    let range = Range {
+        low: 0,
+        high: largest(signal.width(params)),
+    };
+    Ok(Place::Constant(integer(field, range, value)?))
 }
 
 /// The largest number of so many bits.
@@ -118,12 +124,12 @@ fn largest(width: u8) -> u64
 /// Bits of a variable, which a table gives. A value that is no table is of the wrong kind.
 #[tactic(auto, unfolding(crate::specs::FieldTable::bits_in))]
 fn read_bits(alloc: Global, signal: Signal, value: &Value) -> Result<Place, JobFault>
-    ensures { Gives (λ p. p) result (bits_in signal (view value.now)) }
+    ensures { ReadsAs (λ p. p) result (bits_in signal (view value.now)) }
 {
     let field = Field::Map(signal);
     let table = table(field, &["var", "low", "high"], Some(value))?;
     let name = any_text(alloc, field, find(table, "var"))?;
-    let low = number(field, 0, LAST_BIT, Some(0), find(table, "low"))?;
-    let high = optional(field, 0, LAST_BIT, find(table, "high"))?;
+    let low = number_u32(field, BITS, Absent::Default(0), find(table, "low"))?;
+    let high = optional(field, BITS, find(table, "high"))?;
     Ok(Place::Variable { name, low, high })
 }

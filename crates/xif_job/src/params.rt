@@ -1,13 +1,13 @@
-// The parameters of a job.
+//! The parameters of a job (CV-X-IF 1.0.0, "Parameters").
 ghost use Rattle.std.specs.Prelude.{◌≡◌, IfOk, Ok};
 ghost use Rattle.toml.specs.View.{table_view};
 ghost use Rattle.xif_base.specs.Checks.{first_fault};
 ghost use Rattle.xif_base.specs.Params.{ranges, IsInRange};
 ghost use Rattle.xif_job.specs.FieldTable.{params_of, checked};
-ghost use Rattle.xif_job.specs.Outcome.{Gives};
+ghost use Rattle.xif_job.specs.Outcome.{ReadsAs};
 
 use crate::field::field_of;
-use crate::readers::{find, flag, number_u8, port_width, table};
+use crate::readers::{Absent, Range, find, flag, number_u8, port_width, table};
 use crate::{Field, JobFault};
 use toml::Table;
 use xif_base::Params;
@@ -28,25 +28,33 @@ const NAMES: [&str; 9] = [
 /// The table `params`.
 #[tactic(auto, unfolding(crate::specs::FieldTable::params_of))]
 pub(crate) fn read_params(top: &Table) -> Result<Params, JobFault>
-    ensures value { Gives (λ p. p) result (params_of (table_view top.now)) }
+    ensures value { ReadsAs (λ p. p) result (params_of (table_view top.now)) }
     ensures in_range { IfOk result IsInRange }
 {
     let table = table(Field::ParamsNumRs, &NAMES, find(Some(top), "params"))?;
+    let range = Range { low: 2, high: 3 };
     let found = find(table, "x_num_rs");
-    let num_rs = number_u8(Field::ParamsNumRs, 2, 3, Some(2), found)?;
+    let num_rs = number_u8(Field::ParamsNumRs, range, Absent::Default(2), found)?;
+    let range = Range { low: 3, high: 12 };
     let found = find(table, "x_id_width");
-    let id_width = number_u8(Field::ParamsIdWidth, 3, 12, Some(3), found)?;
-    let rfr_width = port_width(Field::ParamsRfrWidth, find(table, "x_rfr_width"))?;
-    let rfw_width = port_width(Field::ParamsRfwWidth, find(table, "x_rfw_width"))?;
+    let id_width = number_u8(Field::ParamsIdWidth, range, Absent::Default(3), found)?;
+    let found = find(table, "x_rfr_width");
+    let rfr_width = port_width(Field::ParamsRfrWidth, Absent::Default(32), found)?;
+    let found = find(table, "x_rfw_width");
+    let rfw_width = port_width(Field::ParamsRfwWidth, Absent::Default(32), found)?;
+    let range = Range { low: 1, high: 4 };
     let found = find(table, "x_num_harts");
-    let num_harts = number_u8(Field::ParamsNumHarts, 1, 4, Some(1), found)?;
+    let num_harts = number_u8(Field::ParamsNumHarts, range, Absent::Default(1), found)?;
+    let range = Range { low: 1, high: 8 };
     let found = find(table, "x_hartid_width");
-    let hartid_width = number_u8(Field::ParamsHartidWidth, 1, 8, Some(1), found)?;
+    let hartid_width = number_u8(Field::ParamsHartidWidth, range, Absent::Default(1), found)?;
+    let range = Range { low: 0, high: 3 };
     let found = find(table, "x_dualread");
-    let dual_read = number_u8(Field::ParamsDualRead, 0, 3, Some(0), found)?;
-    let dual_write = flag(Field::ParamsDualWrite, false, find(table, "x_dualwrite"))?;
+    let dual_read = number_u8(Field::ParamsDualRead, range, Absent::Default(0), found)?;
+    let found = find(table, "x_dualwrite");
+    let dual_write = flag(Field::ParamsDualWrite, Absent::Default(0), found)?;
     let found = find(table, "x_issue_register_split");
-    let split = flag(Field::ParamsIssueRegisterSplit, true, found)?;
+    let split = flag(Field::ParamsIssueRegisterSplit, Absent::Default(1), found)?;
     check(Params {
         num_rs,
         id_width,

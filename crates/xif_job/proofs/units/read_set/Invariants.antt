@@ -6,5 +6,5 @@ use Rattle.xif_job.proofs.Turns.{with_front}
 use Rattle.xif_job.proofs.units.read_set.Given as goal
 
 -- what was read and what is left are the whole
-abbrev pub invariant-loop-i : goal.invariant-loop-i
-invariant-loop-i l = with_front l.set (each unit_in (items_view (drop l.i l.values))) ≡ each unit_in (items_view l.values)
+abbrev pub invariant-loop-value : goal.invariant-loop-value
+invariant-loop-value l = with_front l.set (each unit_in (items_view (drop l.value-index l.values))) ≡ each unit_in (items_view l.values)
