@@ -1,7 +1,7 @@
 # Runs the blocks of code of the documents; tests/run sources this file. The first line of a block says what it is:
 #
-#   ```console               commands, each behind `$ `, and what they print on standard output and standard error
-#   ```LANGUAGE file=NAME    a file, written under this name for the commands behind it
+#   ```console               commands, each after `$ `, and what they print on standard output and standard error
+#   ```LANGUAGE file=NAME    a file, written under this name for the commands after it
 #   ```LANGUAGE source=PATH  parts of a file of the repository, with an empty line between them
 #   ```sh                    commands that take minutes: they are not run
 #
@@ -42,7 +42,7 @@ is_quoted() {
   done < <(unindented; echo)
 }
 
-# Runs one block: its name, what its first line says behind the language, and its text.
+# Runs one block: its name, what its first line says after the language, and its text.
 run_block() {
   local name=$1 kind=$2 block=$3
   case $kind in
