@@ -5,7 +5,7 @@
 #   ```LANGUAGE source=PATH  parts of a file of the repository, with an empty line between them
 #   ```sh                    commands that take minutes: they are not run
 #
-# A block of any other kind fails. The commands of a block run in one shell, which starts in a folder that looks like the
+# A block of any other kind fails, and one that is indented. The commands of a block run in one shell, which starts in a folder that looks like the
 # top of the repository, and `xif` is the program that `rt ci` built. Each document has a folder of its own.
 
 # Prints the commands of a block and what they print.
@@ -66,8 +66,9 @@ run_document() {
         start=$number kind=${line#'```'} block=''
         kind=${kind##* }
         ;;
+      '0    '* | '0 '*'```'*) same "$1, line $number" 'a block between lines of ```' 'an indented one' ;;
       0*) ;;
-      *'```')
+      "$start"'```')
         run_block "$1, line $start" "$kind" "$block"
         start=0
         ;;
