@@ -24,6 +24,9 @@ pub struct Params {
     pub dual_write: bool,
     /// X_ISSUE_REGISTER_SPLIT: whether registers are sent apart from the issue of the instruction.
     pub split: bool,
+    /// The profile of the rules, 1 or 2. In profile 2 kills come in issue order, and a refused
+    /// instruction keeps its id until it is decided.
+    pub profile: u8,
 }
 
 /// A parameter that is out of its range.
@@ -36,6 +39,7 @@ pub enum ParamFault {
     NumHarts,
     HartidWidth,
     DualRead,
+    Profile,
 }
 
 /// What instructions in flight are told apart by: a hart's id and the id of the instruction.
@@ -65,6 +69,8 @@ impl Params {
             Err(ParamFault::HartidWidth)
         } else if self.dual_read > self.num_rs {
             Err(ParamFault::DualRead)
+        } else if self.profile < 1 || self.profile > 2 {
+            Err(ParamFault::Profile)
         } else {
             Ok(())
         }
