@@ -1,2 +1,3 @@
 mod StoredFiles
 mod Fronts
+pub mod Leaves

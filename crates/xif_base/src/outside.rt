@@ -1,7 +1,7 @@
 // The two traits of the outside, and their errors.
-ghost use Rattle.std.specs.Prelude.{◌≡◌, ◌≢◌, ◌⊎◌, ◌≤◌, ◌<◌, ℕ, List, [], Option, length, take, IfOk, OnErr, IsErr, IsErrOf, MatchResult};
+ghost use Rattle.std.specs.Prelude.{◌≡◌, ◌≢◌, ◌⊎◌, ◌<◌, ℕ, List, [], Option, length, take, IfOk, OnOk, OnErr, IsErr, IsErrOf, MatchResult};
 ghost use Rattle.std.specs.Io.{ReadsAtMost, WritesAtMost};
-ghost use Rattle.xif_base.specs.Faults.{Rose};
+ghost use Rattle.xif_base.specs.Faults.{Rose, CountsFaults, OnlyReads};
 ghost use Rattle.xif_base.specs.Files.{Files, IsMissing, HasBytes, Copies, appended, Becomes};
 ghost use Rattle.std.specs.FinMap as map;
 ghost use Rattle.xif_base.specs.Output.{grown};
@@ -71,13 +71,10 @@ pub trait Shelf {
         // To ask for a name that isn't there earns nobody a fault, where the shelf tells its files.
         ensures failed { OnErr result (Rose (fetch_faults self.old) (fetch_faults self.new)
             ⊎ (IsMissing (files self.old) name.now × (fetch_faults self.new ≡ fetch_faults self.old))) }
-        ensures count { fetch_faults self.old ≤ fetch_faults self.new }
-        ensures writes { write_faults self.new ≡ write_faults self.old }
-        ensures files { files self.new ≡ files self.old }
+        ensures uncounted { OnOk result (fetch_faults self.new ≡ fetch_faults self.old) }
+        ensures only_reads { OnlyReads files fetch_faults write_faults faultless self.old self.new }
 
-        // A shelf that says it has no faults earns none, and fails only for a name that isn't there.
-        ensures stays_faultless { faultless self.old → faultless self.new }
-        ensures no_fault { faultless self.old → fetch_faults self.new ≡ fetch_faults self.old }
+        // A shelf that says it has no faults fails only for a name that isn't there.
         ensures only_missing { faultless self.old → OnErr result (IsMissing (files self.old) name.now) };
 
     /// Makes a file empty, and makes it where it isn't there. Other files stay.
@@ -86,12 +83,12 @@ pub trait Shelf {
             (λ _. Becomes (files self.old) (files self.new) (λ m. map.insert m name.now []))
             (λ _. files self.new ≡ files self.old) }
         ensures failed { IsErrOf result WriteFail.Failed → Rose (write_faults self.old) (write_faults self.new) }
-        ensures count { write_faults self.old ≤ write_faults self.new }
+        ensures uncounted { result ≢ Err WriteFail.Failed →
+            write_faults self.new ≡ write_faults self.old }
+        ensures counts { CountsFaults write_faults faultless self.old self.new }
         ensures fetches { fetch_faults self.new ≡ fetch_faults self.old }
 
-        // A shelf that says it has no faults earns none, and lacks at most memory.
-        ensures stays_faultless { faultless self.old → faultless self.new }
-        ensures no_fault { faultless self.old → write_faults self.new ≡ write_faults self.old }
+        // A shelf that says it has no faults lacks at most memory.
         ensures only_memory { faultless self.old → result ≢ Err WriteFail.Failed };
 
     /// Adds a front of a piece to the end of a file, and answers how many bytes that is: not 0, but
@@ -107,12 +104,12 @@ pub trait Shelf {
         // To ask for a name that isn't there earns nobody a fault, where the shelf tells its files.
         ensures failed { IsErrOf result WriteFail.Failed → Rose (write_faults self.old) (write_faults self.new)
             ⊎ (IsMissing (files self.old) name.now × (write_faults self.new ≡ write_faults self.old)) }
-        ensures count { write_faults self.old ≤ write_faults self.new }
+        ensures uncounted { result ≢ Err WriteFail.Failed →
+            write_faults self.new ≡ write_faults self.old }
+        ensures counts { CountsFaults write_faults faultless self.old self.new }
         ensures fetches { fetch_faults self.new ≡ fetch_faults self.old }
 
-        // A shelf that says it has no faults earns none, and fails only for a name that isn't there.
-        ensures stays_faultless { faultless self.old → faultless self.new }
-        ensures no_fault { faultless self.old → write_faults self.new ≡ write_faults self.old }
+        // A shelf that says it has no faults fails only for a name that isn't there.
         ensures only_missing { faultless self.old → result ≡ Err WriteFail.Failed → IsMissing (files self.old) name.now };
 }
 
@@ -135,10 +132,9 @@ pub trait Out {
             (λ n. put_bytes self.new ≡ grown (put_bytes self.old) (take n piece.now))
             (λ _. put_bytes self.new ≡ put_bytes self.old) }
         ensures failed { IsErrOf result WriteFail.Failed → Rose (faults self.old) (faults self.new) }
-        ensures count { faults self.old ≤ faults self.new }
+        ensures uncounted { result ≢ Err WriteFail.Failed → faults self.new ≡ faults self.old }
+        ensures counts { CountsFaults faults faultless self.old self.new }
 
-        // An output that says it has no faults earns none, and lacks at most memory.
-        ensures stays_faultless { faultless self.old → faultless self.new }
-        ensures no_fault { faultless self.old → faults self.new ≡ faults self.old }
+        // An output that says it has no faults lacks at most memory.
         ensures only_memory { faultless self.old → result ≢ Err WriteFail.Failed };
 }

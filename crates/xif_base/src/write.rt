@@ -1,6 +1,6 @@
 // All bytes of a text, put to an output.
-ghost use Rattle.std.specs.Prelude.{◌≡◌, ◌≢◌, ◌≤◌, OnOk, OnErr};
-ghost use Rattle.xif_base.specs.Faults.{Rose};
+ghost use Rattle.std.specs.Prelude.{◌≡◌, ◌≢◌, OnOk, OnErr};
+ghost use Rattle.xif_base.specs.Faults.{Rose, CountsFaults};
 ghost use Rattle.xif_base.specs.Output.{grown, GrowsByFront};
 
 use crate::{Out, WriteFail};
@@ -12,11 +12,10 @@ pub fn put_all<O: Out>(out: &mut O, bytes: &[u8]) -> Result<(), WriteFail>
     ensures front { OnErr result
         (GrowsByFront (O.put_bytes out.old) (O.put_bytes out.new) bytes.now) }
     ensures failed { result ≡ Err WriteFail.Failed → Rose (O.faults out.old) (O.faults out.new) }
-    ensures count { O.faults out.old ≤ O.faults out.new }
+    ensures uncounted { result ≢ Err WriteFail.Failed → O.faults out.new ≡ O.faults out.old }
+    ensures counts { CountsFaults O.faults O.faultless out.old out.new }
 
-    // An output that says it has no faults earns none, and lacks at most memory.
-    ensures stays_faultless { O.faultless out.old → O.faultless out.new }
-    ensures no_fault { O.faultless out.old → O.faults out.new ≡ O.faults out.old }
+    // An output that says it has no faults lacks at most memory.
     ensures only_memory { O.faultless out.old → result ≢ Err WriteFail.Failed }
 {
     let mut done = 0;

@@ -1,5 +1,5 @@
 use Rattle.std.proofs.Common.{arith, ap, ◌∙◌}
-use Rattle.xif_base.specs.Files.{told, IsMissing, HasBytes}
+use Rattle.xif_base.specs.Files.{told, HasBytes}
 use Rattle.xif_base.proofs.Fronts.{IsFront-append}
 use Rattle.xif_base.proofs.read.read_all.Goals as goal
 
@@ -12,16 +12,11 @@ loop-bytes-preserved g c =
       front = λ bytes has.
           let here : HasBytes (g.S.Shelf.files c.loop-bytes.shelf) c.args.name.now bytes = ap (λ files. told files c.args.name.now) before.files ∙ has in
           let copied = c.in-Ok.ensures.bytes bytes here in
-          rw added (IsFront-append c.loop-bytes.bytes.items bytes c.fetch.new.buf c.len.result c.in-Ok.count (omega arith) (before.front bytes has) copied c.in-Ok.ensures.bound.0);
+          rw added (IsFront-append c.loop-bytes.bytes.items bytes c.fetch.new.buf c.len-at.result c.in-Ok.count (omega arith) (before.front bytes has) copied c.in-Ok.ensures.bound.0);
       within = omega arith;
       room = omega arith;
-      count = omega (arith, call.count, before.count);
-      missing = λ gone.
-          let here : IsMissing (g.S.Shelf.files c.loop-bytes.shelf) c.args.name.now = ap (λ files. told files c.args.name.now) before.files ∙ gone in
-          let failed = c.in-Ok.ensures.missing here in
-          cc;
-      writes = call.writes ∙ before.writes;
-      files = call.files ∙ before.files;
-      faultless = λ none. call.stays_faultless (before.faultless none);
-      no_fault = λ none. call.no_fault (before.faultless none) ∙ before.no_fault none;
+      uncounted = c.in-Ok.ensures.uncounted ∙ before.uncounted;
+      writes = call.only_reads.same_writes ∙ before.writes;
+      files = call.only_reads.same_files ∙ before.files;
+      faultless = λ none. call.only_reads.counts.stays_faultless (before.faultless none);
     }

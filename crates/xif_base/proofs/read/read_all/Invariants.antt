@@ -1,5 +1,5 @@
-use Rattle.std.proofs.Common.{◌≡◌, ◌≤◌, ◌<◌, ℕ, List, ◌-◌, length, vec_len}
-use Rattle.xif_base.specs.Files.{HasBytes, IsMissing}
+use Rattle.std.proofs.Common.{◌≡◌, ◌≤◌, ℕ, List, ◌-◌, vec_len}
+use Rattle.xif_base.specs.Files.{HasBytes}
 use Rattle.xif_base.proofs.Fronts.{IsFront}
 use Rattle.xif_base.proofs.read.read_all.Given as goal
 
@@ -7,13 +7,11 @@ abbrev pub invariant-loop-bytes : goal.invariant-loop-bytes
 invariant-loop-bytes g l = record {
   front : (bytes : List ℕ) → HasBytes (g.S.Shelf.files l.fn.shelf) l.name bytes → IsFront l.bytes.items bytes;
   within : vec_len l.bytes ≤ l.limit;
-  room : 0 < length l.piece;
-  count : g.S.Shelf.fetch_faults l.fn.shelf ≤ g.S.Shelf.fetch_faults l.shelf;
-  missing : IsMissing (g.S.Shelf.files l.fn.shelf) l.name → g.S.Shelf.fetch_faults l.shelf ≡ g.S.Shelf.fetch_faults l.fn.shelf;
+  room : vec_len l.room ≡ 65536;
+  uncounted : g.S.Shelf.fetch_faults l.shelf ≡ g.S.Shelf.fetch_faults l.fn.shelf;
   writes : g.S.Shelf.write_faults l.shelf ≡ g.S.Shelf.write_faults l.fn.shelf;
   files : g.S.Shelf.files l.shelf ≡ g.S.Shelf.files l.fn.shelf;
   faultless : g.S.Shelf.faultless l.fn.shelf → g.S.Shelf.faultless l.shelf;
-  no_fault : g.S.Shelf.faultless l.fn.shelf → g.S.Shelf.fetch_faults l.shelf ≡ g.S.Shelf.fetch_faults l.fn.shelf;
 }
 
 abbrev pub decreases-loop-bytes : goal.decreases-loop-bytes

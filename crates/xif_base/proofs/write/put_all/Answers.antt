@@ -13,7 +13,6 @@ loop-done-preserved g c =
     record {
       within = omega (arith, call.bound);
       put = call.bytes ∙ ap (λ told. grown told (take count (take (length bytes - done) (drop done bytes)))) before.put ∙ grown-slice (g.O.Out.put_bytes c.args.out.now) bytes done count;
-      count = omega (arith, call.count, before.count);
-      faultless = λ none. call.stays_faultless (before.faultless none);
-      no_fault = λ none. call.no_fault (before.faultless none) ∙ before.no_fault none;
+      uncounted = call.uncounted (grind arith) ∙ before.uncounted;
+      faultless = λ none. call.counts.stays_faultless (before.faultless none);
     }

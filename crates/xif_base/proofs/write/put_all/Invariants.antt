@@ -6,9 +6,8 @@ abbrev pub invariant-loop-done : goal.invariant-loop-done
 invariant-loop-done g l = record {
   within : l.done ≤ length l.bytes;
   put : g.O.Out.put_bytes l.out ≡ grown (g.O.Out.put_bytes l.fn.out) (take l.done l.bytes);
-  count : g.O.Out.faults l.fn.out ≤ g.O.Out.faults l.out;
+  uncounted : g.O.Out.faults l.out ≡ g.O.Out.faults l.fn.out;
   faultless : g.O.Out.faultless l.fn.out → g.O.Out.faultless l.out;
-  no_fault : g.O.Out.faultless l.fn.out → g.O.Out.faults l.out ≡ g.O.Out.faults l.fn.out;
 }
 
 abbrev pub decreases-loop-done : goal.decreases-loop-done
