@@ -1,4 +1,5 @@
 pub mod Bits
+pub mod Channels
 pub mod Fits
 pub mod Lists
 pub mod ReadsBack

@@ -1,5 +1,5 @@
 -- A sample of a bus reads as that bus.
-use Rattle.std.proofs.Common.{◌≡◌, ◌+◌, ◌<◌, ◌≤◌, ◌==◌, ◌&&◌, ◌/◌, ◌%◌, ◌^◌, ℕ, Bool, true, false, cond, not, [], ◌∷◌, None, Ok, refl, ◌∙◌, ap, arith}
+use Rattle.std.proofs.Common.{◌≡◌, ◌+◌, ◌<◌, ◌≤◌, ◌==◌, ◌&&◌, ◌/◌, ◌%◌, ◌^◌, ℕ, Bool, true, false, cond, not, None, Ok, refl, ◌∙◌, ap, arith}
 use Rattle.std.proofs.Math.Nat.{mod-eq_of_lt, zero-mod, pow-le-pow_right}
 use Rattle.std.proofs.lemmas.Nat.{and_mask}
 use Rattle.xif_base.specs.declared.params.Params.{Params}
@@ -15,7 +15,9 @@ use Rattle.xif_signals.specs.declared.signal.Signal.TheVariants.{Clk, RstN, Issu
 use Rattle.xif_signals.specs.Signal.{width_of}
 use Rattle.xif_signals.specs.Quad.{known_quad, reading_of, value_of, is_one, unknown_of}
 use Rattle.xif_signals.specs.Bus.{bit, sample_of, bus_of, FitsWidths}
-use Rattle.xif_signals.specs.Known.{when, has_flag, is_known, are_halves_known, is_issue_known, is_lane_known, is_register_known, is_commit_known, is_result_known, rule_K1, rule_K2, first_unknown, known_by, known_of}
+use Rattle.xif_signals.specs.Channels.{first_failing_channel}
+use Rattle.xif_signals.specs.Known.{when, has_flag, is_known, are_halves_known, is_issue_known, is_lane_known, is_register_known, is_commit_known, is_result_known, holds_k1, holds_k2, known_by, known_of}
+use Rattle.xif_signals.proofs.Channels.{none_fails}
 
 -- a number that fits reads as it is
 pub reading : (n w : ℕ) → w ≤ 64 → n < 2 ^ w → reading_of (known_quad n) % 2 ^ w ≡ n
@@ -102,9 +104,6 @@ no_unknown b p ResultWe = zero-mod (2 ^ width_of ResultWe p)
 pub is_known-sample_of : (b : Bus) (p : Params) (s : Signal) → is_known (sample_of b) p s ≡ true
 is_known-sample_of b p s = ap (λ n. n == 0) (no_unknown b p s)
 
-pub first_K1 : (b : Bus) (p : Params) → first_unknown (rule_K1 (sample_of b) p) ≡ None
-first_K1 b p = grind (arith, zero-mod)
-
 -- what a channel asks holds where all that it names is known
 issue : (v r a x1 x2 x3 x4 x5 x6 : Bool) → x1 ≡ true → x2 ≡ true → x3 ≡ true → x4 ≡ true → x5 ≡ true → x6 ≡ true → when v (x1 && x2 && x3 && when r (x4 && x5 && when a x6)) ≡ true
 issue v r a x1 x2 x3 x4 x5 x6 k1 k2 k3 k4 k5 k6 = grind arith
@@ -120,10 +119,6 @@ outcome v w x1 x2 x3 x4 x5 k1 k2 k3 k4 k5 = grind arith
 
 halves : (u : ℕ) (even odd : Bool) → u ≡ 0 → (when even (u % 2 ^ 32 == 0) && when odd (u / 2 ^ 32 == 0)) ≡ true
 halves u even odd z = grind arith
-
--- where all four channels hold, none is the first that fails
-none_of : (x1 x2 x3 x4 : Bool) (c1 c2 c3 c4 : Channel) → x1 ≡ true → x2 ≡ true → x3 ≡ true → x4 ≡ true → first_unknown ((x1, c1) ∷ (x2, c2) ∷ (x3, c3) ∷ (x4, c4) ∷ []) ≡ None
-none_of x1 x2 x3 x4 c1 c2 c3 c4 k1 k2 k3 k4 = grind arith
 
 module _ (b : Bus) (p : Params) where
   known : (s : Signal) → is_known (sample_of b) p s ≡ true
@@ -161,15 +156,36 @@ module _ (b : Bus) (p : Params) where
       (known ResultHartid) (known ResultId) (known ResultWe) (known ResultRd)
       (halves (unknown_of q p ResultData) (has_flag we 0) (has_flag we 1) (no_unknown b p ResultData))
 
-  pub first_K2 : first_unknown (rule_K2 (sample_of b) p) ≡ None
-  first_K2 =
+  handshake : (v : Bool) (x1 x2 : Bool) → x1 ≡ true → x2 ≡ true → (x1 && when v x2) ≡ true
+  handshake v x1 x2 k1 k2 = grind arith
+
+  k1 : (channel : Channel) → holds_k1 (sample_of b) p channel ≡ true
+  k1 Issue =
       let q = sample_of b in
-      none_of (is_issue_known q p) (is_register_known q p) (is_commit_known q p) (is_result_known q p) Issue Register Commit ResultChannel
-      issue_known register_known commit_known result_known
+      handshake (is_one q p IssueValid) (is_known q p IssueValid) (is_known q p IssueReady) (known IssueValid) (known IssueReady)
+  k1 Register =
+      let q = sample_of b in
+      handshake (is_one q p RegisterValid) (is_known q p RegisterValid) (is_known q p RegisterReady) (known RegisterValid) (known RegisterReady)
+  k1 Commit = known CommitValid
+  k1 ResultChannel =
+      let q = sample_of b in
+      handshake (is_one q p ResultValid) (is_known q p ResultValid) (is_known q p ResultReady) (known ResultValid) (known ResultReady)
+
+  k2 : (channel : Channel) → holds_k2 (sample_of b) p channel ≡ true
+  k2 Issue = issue_known
+  k2 Register = register_known
+  k2 Commit = commit_known
+  k2 ResultChannel = result_known
+
+  pub no_k1 : first_failing_channel (holds_k1 (sample_of b) p) ≡ None
+  no_k1 = none_fails (holds_k1 (sample_of b) p) k1
+
+  pub no_k2 : first_failing_channel (holds_k2 (sample_of b) p) ≡ None
+  no_k2 = none_fails (holds_k2 (sample_of b) p) k2
 
 -- the sample of a bus whose fields fit is known, as that bus
 pub known_of-sample_of : (b : Bus) (p : Params) → IsInRange p → FitsWidths p b → known_of (sample_of b) p ≡ Ok b
 known_of-sample_of b p r f =
-    ap (λ first. known_by K1 first (known_by K2 (first_unknown (rule_K2 (sample_of b) p)) (Ok (bus_of (sample_of b) p)))) (first_K1 b p)
-    ∙ ap (λ first. known_by K2 first (Ok (bus_of (sample_of b) p))) (first_K2 b p)
+    ap (λ first. known_by K1 first (known_by K2 (first_failing_channel (holds_k2 (sample_of b) p)) (Ok (bus_of (sample_of b) p)))) (no_k1 b p)
+    ∙ ap (λ first. known_by K2 first (Ok (bus_of (sample_of b) p))) (no_k2 b p)
     ∙ ap (λ bus. Ok bus) (bus_of-sample_of b p r f)

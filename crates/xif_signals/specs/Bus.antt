@@ -1,5 +1,6 @@
--- Who drives which signal, and a bus as a sample.
-use Rattle.std.specs.Prelude.{◌<◌, ◌^◌, ℕ, Bool, cond, List, [], ◌∷◌, map}
+-- Who drives which signal (CV-X-IF 1.0.0, "Issue interface", "Register interface", "Commit
+-- interface", "Result interface"), and the sample of a bus.
+use Rattle.std.specs.Prelude.{◌<◌, ◌^◌, ℕ, Bool, if◌then◌else◌, List, [], ◌∷◌, map}
 use Rattle.xif_base.specs.declared.params.Params.{Params}
 use Rattle.xif_signals.specs.declared.bus.CpuOut.{CpuOut}
 use Rattle.xif_signals.specs.declared.bus.CopOut.{CopOut}
@@ -10,7 +11,7 @@ use Rattle.xif_signals.specs.declared.signal.Signal.TheVariants.{IssueValid, Iss
 use Rattle.xif_signals.specs.Signal.{width_of}
 use Rattle.xif_signals.specs.Quad.{known_quad, value_of, is_one}
 
--- each field from the one who drives it
+-- each field is that of the side that drives it
 abbrev pub join_of : CpuOut → CopOut → CpuIn → Bus
 join_of cpu cop input = record {
   issue_valid = cpu.issue_valid;
@@ -44,9 +45,9 @@ join_of cpu cop input = record {
 
 -- the number of a field of one bit
 abbrev pub bit : Bool → ℕ
-bit b = cond b 1 0
+bit b = if b then 1 else 0
 
--- the values of the signals but for the clock, in the order of the table, where reset is off
+-- the values of the signals but for the clock, in the order of the table, with rst_n 1
 abbrev pub values_of : Bus → List ℕ
 values_of b =
     1 ∷ bit b.issue_valid ∷ bit b.issue_ready ∷ b.issue_hartid ∷ b.issue_id ∷ b.issue_instr
@@ -60,8 +61,8 @@ values_of b =
 abbrev pub sample_of : Bus → List Quad
 sample_of b = map known_quad (values_of b)
 
--- Each field is below 2 to the width of its signal, so it is 0 where the width is 0. (A field that is a
--- `bool` always fits the one bit of its signal.)
+-- Each field is below 2 to the width of its signal, so it is 0 where the width is 0 (CV-X-IF 1.0.0,
+-- "Parameters"). A field that is a `bool` always fits the one bit of its signal.
 pub record FitsWidths (p : Params) (b : Bus) : Type 0 where
   pub issue_hartid : b.issue_hartid < 2 ^ width_of IssueHartid p
   pub issue_id : b.issue_id < 2 ^ width_of IssueId p
@@ -82,7 +83,7 @@ pub record FitsWidths (p : Params) (b : Bus) : Type 0 where
   pub result_rd : b.result_rd < 2 ^ width_of ResultRd p
   pub result_we : b.result_we < 2 ^ width_of ResultWe p
 
--- what the bits below the widths say, an unknown bit as 0: each side, and the bus
+-- both sides and the bus of a sample: the bits below the widths, an unknown bit as 0
 abbrev pub cpu_out_of : List Quad → Params → CpuOut
 cpu_out_of qs p = record {
   issue_valid = is_one qs p IssueValid;

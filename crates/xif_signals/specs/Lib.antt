@@ -1,4 +1,5 @@
 pub mod Signal
 pub mod Quad
 pub mod Bus
+pub mod Channels
 pub mod Known

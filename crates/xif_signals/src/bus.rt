@@ -1,13 +1,17 @@
-// The values of all signals in a cycle, and who drives which.
+//! The values of all signals in a cycle, and who drives which.
 ghost use Rattle.std.specs.Prelude.{◌≡◌};
 ghost use Rattle.xif_signals.specs.Bus.{join_of, values_of, sample_of, FitsWidths};
 ghost use Rattle.xif_base.specs.declared.params.Params.{Params};
 ghost use Rattle.xif_base.specs.Params.{IsInRange};
+ghost use Rattle.xif_signals.specs.Channels.{valid_of, key_of};
 ghost use Rattle.xif_signals.specs.Known.{known_of};
 
+use crate::rule::Channel;
 use crate::sample::Sample;
+use xif_base::Key;
 
-/// What the core drives, but for `result_ready`.
+/// What the core drives in a cycle, but for `result_ready` (CV-X-IF 1.0.0, "Issue interface",
+/// "Register interface", "Commit interface"). A field has the low bits of the signal of its name.
 #[derive(Clone, Copy, Debug, PartialEq, Eq)]
 pub struct CpuOut {
     pub issue_valid: bool,
@@ -27,7 +31,8 @@ pub struct CpuOut {
     pub commit_kill: bool,
 }
 
-/// What the coprocessor drives.
+/// What the coprocessor drives in a cycle (CV-X-IF 1.0.0, "Issue interface", "Register interface",
+/// "Result interface"). A field has the low bits of the signal of its name.
 #[derive(Clone, Copy, Debug, PartialEq, Eq)]
 pub struct CopOut {
     pub issue_ready: bool,
@@ -43,13 +48,15 @@ pub struct CopOut {
     pub result_we: u8,
 }
 
-/// What the core drives once it has seen what the coprocessor drives.
+/// What the core drives in a cycle once it has seen what the coprocessor drives (CV-X-IF 1.0.0,
+/// "Result interface").
 #[derive(Clone, Copy, Debug, PartialEq, Eq)]
 pub struct CpuIn {
     pub result_ready: bool,
 }
 
-/// The values of the signals in a cycle, but for clock and reset.
+/// The values of the signals in a cycle, but for clock and reset: those of `CpuOut`, `CopOut` and
+/// `CpuIn`. A field is 0 above the width of its signal.
 #[derive(Clone, Copy, Debug, PartialEq, Eq)]
 pub struct Bus {
     pub issue_valid: bool,
@@ -82,7 +89,7 @@ pub struct Bus {
 }
 
 impl Bus {
-    /// The bus of a cycle: each field from the one who drives it.
+    /// The bus of a cycle: each field is that of the side that drives it.
     pub fn join(cpu: &CpuOut, cop: &CopOut, input: &CpuIn) -> Bus
         ensures { result ≡ join_of cpu.now cop.now input.now }
     {
@@ -117,16 +124,53 @@ impl Bus {
         }
     }
 
-    /// The sample of a cycle in which reset is off and these are the values of the signals.
+    /// Whether a channel's valid is 1.
+    pub fn is_valid(&self, channel: Channel) -> bool
+        ensures { result ≡ valid_of self.now channel }
+    {
+        match channel {
+            Channel::Issue => self.issue_valid,
+            Channel::Register => self.register_valid,
+            Channel::Commit => self.commit_valid,
+            Channel::Result => self.result_valid,
+        }
+    }
+
+    /// The hartid and the id that a channel carries, which mean something where its valid is 1.
+    pub fn key(&self, channel: Channel) -> Key
+        ensures { result ≡ key_of self.now channel }
+    {
+        match channel {
+            Channel::Issue => Key {
+                hart: self.issue_hartid,
+                id: self.issue_id,
+            },
+            Channel::Register => Key {
+                hart: self.register_hartid,
+                id: self.register_id,
+            },
+            Channel::Commit => Key {
+                hart: self.commit_hartid,
+                id: self.commit_id,
+            },
+            Channel::Result => Key {
+                hart: self.result_hartid,
+                id: self.result_id,
+            },
+        }
+    }
+
+    /// The sample of a cycle out of reset in which the signals have these values.
     pub fn sample(&self) -> Sample
         ensures sample { result ≡ sample_of self.now }
-        // `Sample::known` gives the bus again.
-        ensures reads_back { (p : Params) → IsInRange p → FitsWidths p self.now → known_of result p ≡ Ok self.now }
+        // `Sample::known` returns the bus again.
+        ensures reads_back { (params : Params) → IsInRange params → FitsWidths params self.now
+            → known_of result params ≡ Ok self.now }
     {
         Sample::of(self.values())
     }
 
-    /// The values of the signals but for the clock, in the order of the table.
+    /// The values of the signals but for the clock, in the order of the table, with rst_n 1.
     fn values(&self) -> [u64; 28]
         ensures { result ≡ values_of self.now }
     {

@@ -1,8 +1,8 @@
-// Which bits of a sample have to be known, and the bus that it is where they are.
-ghost use Rattle.std.specs.Prelude.{◌≡◌, ◌==◌, ◌&&◌, ◌<◌, ◌≤◌, not, [], ◌∷◌, IfOk};
+//! Which bits of a sample have to be known, and the bus of a sample in which they are.
+ghost use Rattle.std.specs.Prelude.{◌≡◌, ◌==◌, ◌&&◌, ◌<◌, ◌≤◌, not, IfOk};
 ghost use Rattle.xif_base.specs.Params.{IsInRange};
+ghost use Rattle.xif_signals.specs.Channels.{first_failing_channel};
 ghost use Rattle.xif_signals.specs.Bus.{cpu_out_of, cop_out_of, bus_of, FitsWidths};
-ghost use Rattle.xif_signals.specs.declared.rule.Channel.TheVariants.{Issue, Register, Commit, Result as ResultChannel};
 ghost use Rattle.xif_signals.specs.Signal.{width_of};
 ghost use Rattle.xif_signals.specs.Quad.{value_of};
 ghost use Rattle.xif_signals.specs.Known as rules;
@@ -14,20 +14,21 @@ use crate::signal::Signal;
 use xif_base::{Params, ReadFlags};
 
 impl Sample {
-    /// The bus, where all bits are known that count, with 0 for the others. Else the first of the rules
-    /// K1 and K2 that fails, and its first channel. Looks at no bit at or above a signal's width.
+    /// The bus, where all bits that count are known, with 0 for the unknown bits that don't. Else
+    /// the first of the rules K1 and K2 that fails, and the first channel at which it does. No bit
+    /// at or above the width of its signal counts (CV-X-IF 1.0.0, "Parameters").
     pub fn known(&self, params: &Params) -> Result<Bus, Unknown>
         requires { IsInRange params.now }
         ensures known { result ≡ rules.known_of self.now params.now }
         ensures fits { IfOk result (FitsWidths params.now) }
     {
-        if let Some(channel) = self.first_k1(params) {
+        if let Some(channel) = self.first_failing_k1(params) {
             return Err(Unknown {
                 rule: Rule::K1,
                 channel,
             });
         }
-        if let Some(channel) = self.first_k2(params) {
+        if let Some(channel) = self.first_failing_k2(params) {
             return Err(Unknown {
                 rule: Rule::K2,
                 channel,
@@ -36,32 +37,59 @@ impl Sample {
         Ok(self.bus(params))
     }
 
-    /// The first channel where K1 fails.
-    fn first_k1(&self, params: &Params) -> Option<Channel>
+    fn first_failing_k1(&self, params: &Params) -> Option<Channel>
         requires { IsInRange params.now }
-        ensures { result ≡ rules.first_unknown (rules.rule_K1 self.now params.now) }
+        ensures { result ≡ first_failing_channel (rules.holds_k1 self.now params.now) }
     {
-        first_unknown(
-            self.is_handshake_known(Signal::IssueValid, Signal::IssueReady, params),
-            self.is_handshake_known(Signal::RegisterValid, Signal::RegisterReady, params),
-            self.is_known(Signal::CommitValid, params),
-            self.is_handshake_known(Signal::ResultValid, Signal::ResultReady, params),
-        )
+        Channel::first_failing(|channel| self.holds_k1(channel, params))
     }
 
-    /// The first channel where K2 fails.
-    fn first_k2(&self, params: &Params) -> Option<Channel>
+    fn first_failing_k2(&self, params: &Params) -> Option<Channel>
         requires { IsInRange params.now }
-        ensures { result ≡ rules.first_unknown (rules.rule_K2 self.now params.now) }
+        ensures { result ≡ first_failing_channel (rules.holds_k2 self.now params.now) }
     {
-        first_unknown(
-            self.is_issue_known(params),
-            self.is_register_known(params),
-            self.is_commit_known(params),
-            self.is_result_known(params),
-        )
+        Channel::first_failing(|channel| self.holds_k2(channel, params))
     }
 
+    /// Whether K1 holds at a channel.
+    fn holds_k1(&self, channel: Channel, params: &Params) -> bool
+        requires { IsInRange params.now }
+        ensures { result ≡ rules.holds_k1 self.now params.now channel }
+    {
+        match channel {
+            Channel::Issue => self.is_handshake_known(
+                Signal::IssueValid,
+                Signal::IssueReady,
+                params,
+            ),
+            Channel::Register => self.is_handshake_known(
+                Signal::RegisterValid,
+                Signal::RegisterReady,
+                params,
+            ),
+            Channel::Commit => self.is_known(Signal::CommitValid, params),
+            Channel::Result => self.is_handshake_known(
+                Signal::ResultValid,
+                Signal::ResultReady,
+                params,
+            ),
+        }
+    }
+
+    /// Whether K2 holds at a channel.
+    fn holds_k2(&self, channel: Channel, params: &Params) -> bool
+        requires { IsInRange params.now }
+        ensures { result ≡ rules.holds_k2 self.now params.now channel }
+    {
+        match channel {
+            Channel::Issue => self.is_issue_known(params),
+            Channel::Register => self.is_register_known(params),
+            Channel::Commit => self.is_commit_known(params),
+            Channel::Result => self.is_result_known(params),
+        }
+    }
+
+    /// Valid, and ready where valid is 1.
     fn is_handshake_known(&self, valid: Signal, ready: Signal, params: &Params) -> bool
         requires { IsInRange params.now }
         ensures { result ≡ rules.is_handshake_known self.now params.now valid ready }
@@ -70,6 +98,8 @@ impl Sample {
             && (!self.is_one(valid, params) || self.is_known(ready, params))
     }
 
+    /// The request where issue_valid is 1, the response at the handshake, issue_register_read where
+    /// it accepts.
     fn is_issue_known(&self, params: &Params) -> bool
         requires { IsInRange params.now }
         ensures { result ≡ rules.is_issue_known self.now params.now }
@@ -77,7 +107,7 @@ impl Sample {
         if !self.is_one(Signal::IssueValid, params) {
             return true;
         }
-        // Here and below `&` reads all of them, with no branch: nearly always all are known.
+        // Here and below `&` tests all of them, with no branch: nearly always all are known.
         if !(self.is_known(Signal::IssueHartid, params)
             & self.is_known(Signal::IssueId, params)
             & self.is_known(Signal::IssueInstr, params))
@@ -96,6 +126,7 @@ impl Sample {
             || self.is_known(Signal::IssueRegisterRead, params)
     }
 
+    /// The key and the flags where register_valid is 1, and the halves whose flag is 1.
     fn is_register_known(&self, params: &Params) -> bool
         requires { IsInRange params.now }
         ensures { result ≡ rules.is_register_known self.now params.now }
@@ -114,6 +145,7 @@ impl Sample {
         params.num_rs != 3 || self.is_lane_known(2, Signal::RegisterRs2, params)
     }
 
+    /// The halves of a lane of register_rs whose bit of register_rs_valid is 1.
     fn is_lane_known(&self, lane: u8, signal: Signal, params: &Params) -> bool
         requires lane { lane < params.now.num_rs }
         requires params { IsInRange params.now }
@@ -121,13 +153,11 @@ impl Sample {
     {
         let flags = self.value(Signal::RegisterRsValid, params);
         let even = has_flag(flags, ReadFlags::even_bit(params, lane));
-        let odd = match ReadFlags::odd_bit(params, lane) {
-            Some(bit) => has_flag(flags, bit),
-            None => false,
-        };
+        let odd = ReadFlags::odd_bit(params, lane).is_some_and(|bit| has_flag(flags, bit));
         self.are_halves_known(signal, even, odd, params)
     }
 
+    /// All of the request where commit_valid is 1.
     fn is_commit_known(&self, params: &Params) -> bool
         requires { IsInRange params.now }
         ensures { result ≡ rules.is_commit_known self.now params.now }
@@ -140,6 +170,7 @@ impl Sample {
             & self.is_known(Signal::CommitKill, params)
     }
 
+    /// The key and the flags where result_valid is 1, and what a flag says is written.
     fn is_result_known(&self, params: &Params) -> bool
         requires { IsInRange params.now }
         ensures { result ≡ rules.is_result_known self.now params.now }
@@ -163,7 +194,7 @@ impl Sample {
         )
     }
 
-    /// Whether the halves of a signal are known whose flag is set.
+    /// Whether each half of a signal whose flag is 1 is known.
     fn are_halves_known(&self, signal: Signal, even: bool, odd: bool, params: &Params) -> bool
         requires { IsInRange params.now }
         ensures { result ≡ rules.are_halves_known self.now params.now signal even odd }
@@ -172,7 +203,7 @@ impl Sample {
         (!even || unknown % (1 << 32) == 0) && (!odd || unknown / (1 << 32) == 0)
     }
 
-    /// What the bits below the widths say, an unknown bit as 0.
+    /// The bus by the bits below the widths, an unknown bit as 0.
     fn bus(&self, params: &Params) -> Bus
         requires { IsInRange params.now }
         ensures { result ≡ bus_of self.now params.now }
@@ -244,24 +275,7 @@ impl Sample {
     }
 }
 
-/// The first channel whose test fails.
-fn first_unknown(issue: bool, register: bool, commit: bool, result_channel: bool) -> Option<Channel>
-    ensures { result ≡ rules.first_unknown ((issue, Issue) ∷ (register, Register) ∷ (commit, Commit) ∷ (result_channel, ResultChannel) ∷ []) }
-{
-    if !issue {
-        Some(Channel::Issue)
-    } else if !register {
-        Some(Channel::Register)
-    } else if !commit {
-        Some(Channel::Commit)
-    } else if !result_channel {
-        Some(Channel::Result)
-    } else {
-        None
-    }
-}
-
-/// Whether register and data of a result are known, where a flag says that it is written.
+/// Whether register and halves of a result are known, where a flag says that it is written.
 fn is_written_known(flags: u64, rd: bool, value: bool) -> bool
     ensures { result ≡ rules.when (not (flags == 0)) (rd && value) }
 {

@@ -1,13 +1,14 @@
-// The rules of a session, and what is told of bits that aren't known.
+//! The rules of a session, the channels that they are judged at, and the fault of bits that are
+//! unknown.
 
-/// A rule of a session. They are judged in this order.
+/// A rule of a session. The rules are judged in this order.
 #[derive(Clone, Copy, Debug, PartialEq, Eq)]
 pub enum Rule {
-    /// Each valid is known, and the ready under a valid.
+    /// Each valid is known, and ready is known where its valid is 1.
     K1,
-    /// What a valid stands for is known.
+    /// What a channel carries is known where its valid is 1.
     K2,
-    /// Each hartid under a valid is below X_NUM_HARTS.
+    /// Each hartid is below X_NUM_HARTS where its valid is 1.
     H1,
     /// An instruction that is offered doesn't change.
     I1,
@@ -49,7 +50,8 @@ pub enum Rule {
     R6,
 }
 
-/// A channel of the interface (CV-X-IF 1.0.0).
+/// A channel of the interface (CV-X-IF 1.0.0, "Issue interface", "Register interface", "Commit
+/// interface" and "Result interface"). Each rule is judged channel by channel, in this order.
 #[derive(Clone, Copy, Debug, PartialEq, Eq)]
 pub enum Channel {
     Issue,
@@ -58,7 +60,32 @@ pub enum Channel {
     Result,
 }
 
-/// Which of K1 and K2 fails for a bit that isn't known, and the first channel where it does.
+impl Channel {
+    ghost use Rattle.std.specs.Prelude.{◌≡◌, Bool};
+    ghost use Rattle.xif_signals.specs.Channels.{first_failing_channel};
+
+    /// The first channel at which a test fails.
+    pub fn first_failing<F: Fn(Channel) -> bool>(holds: F) -> Option<Channel>
+        requires { F.IsAlwaysCallable holds }
+        ensures { (test : Channel → Bool)
+            → ((channel : Channel) (held : Bool) → F.post holds channel held → held ≡ test channel)
+            → result ≡ first_failing_channel test }
+    {
+        if !holds(Channel::Issue) {
+            Some(Channel::Issue)
+        } else if !holds(Channel::Register) {
+            Some(Channel::Register)
+        } else if !holds(Channel::Commit) {
+            Some(Channel::Commit)
+        } else if !holds(Channel::Result) {
+            Some(Channel::Result)
+        } else {
+            None
+        }
+    }
+}
+
+/// The first of the rules K1 and K2 that fails, and the first channel at which it does.
 #[derive(Clone, Copy, Debug, PartialEq, Eq)]
 pub struct Unknown {
     pub rule: Rule,

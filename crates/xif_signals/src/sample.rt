@@ -1,26 +1,27 @@
-// The values of the signals in one cycle, some of their bits unknown.
-ghost use Rattle.std.specs.Prelude.{◌≡◌, ◌≢◌, ◌≤◌, ◌<◌, ◌%◌, ◌^◌, slice_set, replicate, map};
+//! The bits of the signals in one cycle, some of them unknown.
+ghost use Rattle.std.specs.Prelude.{◌≡◌, ◌≢◌, ◌<◌, ◌^◌, slice_set, map};
 ghost use Rattle.xif_base.specs.Params.{IsInRange};
 ghost use Rattle.xif_signals.specs.declared.signal.Signal.TheVariants.{Clk};
 ghost use Rattle.xif_signals.specs.Signal.{width_of};
-ghost use Rattle.xif_signals.specs.Quad.{known_quad, reading_of, place_of, quad_of, zeros, value_of, is_one, unknown_of};
+ghost use Rattle.xif_signals.specs.Quad.{known_quad, reading_of, place_of, quad_of, zeros, value_of, is_one, unknown_of, is_in_session};
 ghost use Rattle.xif_signals.specs.Known.{is_known};
 
+use crate::mask::low_bits;
 use crate::signal::Signal;
 use std::marker::Model;
 use xif_base::Params;
 
-/// The bits of a signal. A bit that is set in `unknown` is x or z. Its bit of `value` is to be 0, and
-/// `Sample::known` reads it as 0 whatever it is.
+/// The bits of a signal. A bit that is 1 in `unknown` is x or z (IEEE 1364-2005, 18.2.2); its bit
+/// of `value` is to be 0, and reads as 0 whatever it is.
 #[derive(Clone, Copy, Debug, PartialEq, Eq)]
 pub struct Quad {
     pub value: u64,
     pub unknown: u64,
 }
 
-/// The signals of one cycle, but for the clock.
+/// The bits of the signals in one cycle, but for the clock.
 ///
-/// It is seen as the list of their bits in the order of the table.
+/// Contracts see it as the list of the bits of each signal, in the order of the table.
 #[derive(Clone, Debug, Drop)]
 pub struct Sample {
     quads: [Quad; 28],
@@ -69,7 +70,7 @@ impl Sample {
         self.quad(signal)
     }
 
-    /// Gives a signal other than the clock these bits.
+    /// Sets the bits of a signal other than the clock.
     pub fn set(&mut self, signal: Signal, quad: Quad)
         requires { signal ≢ Clk }
         ensures set { self.new ≡ slice_set self.old (place_of signal) quad }
@@ -78,7 +79,16 @@ impl Sample {
         self.quads[usize::from(signal.number()) - 1] = quad;
     }
 
-    /// The bits of any signal: no sample has the clock, which reads as the reset does.
+    /// Whether the cycle is one of a session: rst_n is known to be 1. The other cycles separate
+    /// sessions.
+    pub fn is_in_session(&self, params: &Params) -> bool
+        requires { IsInRange params.now }
+        ensures { result ≡ is_in_session self.now params.now }
+    {
+        self.is_one(Signal::RstN, params)
+    }
+
+    /// The bits of any signal. No sample has the clock: it reads as the reset does.
     fn quad(&self, signal: Signal) -> Quad
         ensures { result ≡ quad_of self.now signal }
     {
@@ -105,7 +115,7 @@ impl Sample {
         low_bits(self.quad(signal).reading(), signal.width(params))
     }
 
-    /// Whether a signal of one bit is 1.
+    /// Whether a signal of one bit is known to be 1.
     pub(crate) fn is_one(&self, signal: Signal, params: &Params) -> bool
         requires { IsInRange params.now }
         ensures { result ≡ is_one self.now params.now signal }
@@ -121,23 +131,11 @@ impl Sample {
         low_bits(self.quad(signal).unknown, signal.width(params))
     }
 
+    /// Whether all bits below the signal's width are known.
     pub(crate) fn is_known(&self, signal: Signal, params: &Params) -> bool
         requires { IsInRange params.now }
         ensures { result ≡ is_known self.now params.now signal }
     {
         self.unknown(signal, params) == 0
-    }
-}
-
-#[tactic(auto, using(crate::proofs::Bits::low_lt))]
-fn low_bits(bits: u64, width: u8) -> u64
-    requires { width ≤ 64 }
-    ensures bits { result ≡ bits % 2 ^ width }
-    ensures below { result < 2 ^ width }
-{
-    if width == 64 {
-        bits
-    } else {
-        bits & ((1 << width) - 1)
     }
 }

@@ -1,12 +1,13 @@
-// The signals, and what the table says of each.
+//! The signals, and the line of the table for each.
 ghost use Rattle.std.specs.Prelude.{◌≡◌, [], ◌∷◌};
 ghost use Rattle.xif_base.specs.Params.{IsInRange};
-ghost use Rattle.xif_signals.specs.Signal.{signals, number_of, code_of, name_of, width_of};
+ghost use Rattle.xif_signals.specs.Signal.{signals, signal_number, code_of, name_of, width_of};
 
 use std::fmt;
 use xif_base::Params;
 
-/// A signal of the interface, or its clock or reset, in the order of the table.
+/// A signal of the interface, or its clock or reset, in the order of the table (CV-X-IF 1.0.0,
+/// "Issue interface", "Register interface", "Commit interface", "Result interface").
 #[derive(Clone, Copy, PartialEq, Eq)]
 pub enum Signal {
     Clk,
@@ -78,14 +79,15 @@ impl Signal {
         ]
     }
 
-    /// Its place in the table, 0 to 28.
+    /// Its place in the table, from 0 to 28.
     pub fn number(&self) -> u8
-        ensures { result ≡ number_of self.now }
+        ensures { result ≡ signal_number self.now }
     {
         *self as u8
     }
 
-    /// The character that is the identifier code of its variable in a waveform, from `!` on.
+    /// The identifier code of its variable in a waveform (IEEE 1364-2005, 18.2.1): one ASCII
+    /// character, from `!` on.
     pub fn code(&self) -> u8
         ensures { result ∷ [] ≡ code_of self.now }
     {
@@ -129,7 +131,7 @@ impl Signal {
         }
     }
 
-    /// How many bits it has, 0 where the parameters leave it out.
+    /// Its width in bits, 0 where the parameters leave it out (CV-X-IF 1.0.0, "Parameters").
     pub fn width(&self, params: &Params) -> u8
         requires { IsInRange params.now }
         ensures { result ≡ width_of self.now params.now }
@@ -157,7 +159,13 @@ impl Signal {
     }
 }
 
+// It prints as its name.
 impl fmt::Debug for Signal {
+    ghost use Rattle.std.specs.Prelude.{Some};
+    ghost use Rattle.xif_signals.specs.Signal.{name_of};
+
+    ghost debug_output = { λ signal. Some (name_of signal) };
+
     fn fmt<W: fmt::Write>(&self, f: &mut fmt::Formatter<W>) -> fmt::Result {
         f.write_str(self.name())
     }

@@ -1,0 +1,25 @@
+//! The low bits of numbers of 64 bits.
+ghost use Rattle.std.specs.Prelude.{◌≡◌, ◌≤◌, ◌<◌, ◌-◌, ◌%◌, ◌^◌};
+
+/// The number whose lowest `width` bits are 1 and whose other bits are 0: the largest of `width`
+/// bits.
+pub fn ones_below(width: u8) -> u64
+    requires { width ≤ 64 }
+    ensures { result ≡ 2 ^ width - 1 }
+{
+    if width == 64 {
+        u64::MAX
+    } else {
+        (1 << width) - 1
+    }
+}
+
+/// The lowest `width` bits of a number.
+#[tactic(auto, using(crate::proofs::Bits::and_ones, crate::proofs::Bits::low_lt))]
+pub(crate) fn low_bits(bits: u64, width: u8) -> u64
+    requires { width ≤ 64 }
+    ensures bits { result ≡ bits % 2 ^ width }
+    ensures below { result < 2 ^ width }
+{
+    bits & ones_below(width)
+}
