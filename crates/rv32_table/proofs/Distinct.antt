@@ -9,7 +9,7 @@ use denote.Enum.Bare.{tag_one}
 use Rattle.rv32_table.specs.contracts.rows.Row.{the_type}
 use Rattle.rv32_table.specs.declared.rows.Row.{Row}
 use Rattle.rv32_table.specs.declared.rows.Row.TheVariants.{Addi}
-use Rattle.rv32_table.specs.Table.{Line, line, rows}
+use Rattle.rv32_table.specs.Table.{Line, row_line, rows}
 use Rattle.rv32_table.specs.Instr.{matches, row_of}
 use Rattle.rv32_table.proofs.Listed.{place_of, place_of-below, listed, listed_at}
 
@@ -31,21 +31,21 @@ apart-matches w l m h k =
     ap not (eq-eqb (bit_and l.matched m.mask) (bit_and m.matched l.mask) same)
 
 -- what a test of the list says of each row
-passes : (p : Row → Bool) → list_all p rows ≡ true → (r : Row) → p r ≡ true
+pub passes : (p : Row → Bool) → list_all p rows ≡ true → (r : Row) → p r ≡ true
 passes p h r = All-contains (λ r. p r ≡ true) rows r (AllPass-from_list_all p rows h) (listed r)
 
 abbrev distinct : Row → Row → Bool
-distinct r s = (place_of r == place_of s) || apart (line r) (line s)
+distinct r s = (place_of r == place_of s) || apart (row_line r) (row_line s)
 
 all_distinct : list_all (λ r. list_all (distinct r) rows) rows ≡ true
 all_distinct = refl
 
-pub only : (w : ℕ) (r s : Row) → matches w (line r) ≡ true → matches w (line s) ≡ true → r ≡ s
+pub only : (w : ℕ) (r s : Row) → matches w (row_line r) ≡ true → matches w (row_line s) ≡ true → r ≡ s
 only w r s h k =
     let tested : distinct r s ≡ true = passes (distinct r) (passes (λ r. list_all (distinct r) rows) all_distinct r) s in
-    elim (or_cases (place_of r == place_of s) (apart (line r) (line s)) tested) [
+    elim (or_cases (place_of r == place_of s) (apart (row_line r) (row_line s)) tested) [
       | inl e ↦ tag_one the_type tt r s (eqb-true (place_of r) (place_of s) e)
-      | inr a ↦ absurd (both_ways (apart (line r) (line s)) (apart-matches w (line r) (line s) h k) a)
+      | inr a ↦ absurd (both_ways (apart (row_line r) (row_line s)) (apart-matches w (row_line r) (row_line s) h k) a)
     ]
 
 -- the only one that passes is found
@@ -58,5 +58,5 @@ find-only p r d h one (x ∷ xs) (suc k) l e =
       | inr f ↦ cond-false (p x) (Some x) (find p xs) f ∙ find-only p r d h one xs k (omega arith) e
     ]
 
-pub found : (w : ℕ) (r : Row) → matches w (line r) ≡ true → row_of w ≡ Some r
-found w r h = find-only (λ s. matches w (line s)) r Addi h (λ s k. only w s r k h) rows (place_of r) (place_of-below r) (listed_at r)
+pub found : (w : ℕ) (r : Row) → matches w (row_line r) ≡ true → row_of w ≡ Some r
+found w r h = find-only (λ s. matches w (row_line s)) r Addi h (λ s k. only w s r k h) rows (place_of r) (place_of-below r) (listed_at r)

@@ -1,3 +1,4 @@
 pub mod Masks
 pub mod Listed
 pub mod Distinct
+pub mod Opcodes

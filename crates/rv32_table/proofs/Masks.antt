@@ -4,7 +4,7 @@ use Rattle.std.specs.List.{find, list_all}
 use Rattle.std.proofs.lemmas.Nat.{and_mask, and_block}
 use Rattle.std.proofs.lemmas.Bool.{and_parts, eqb-true, or_cases}
 use Rattle.std.proofs.lemmas.Bool.Decides.{nat_tests}
-use Rattle.rv32_table.specs.Table.{Line, line, rows}
+use Rattle.rv32_table.specs.Table.{Line, row_line, rows}
 use Rattle.rv32_table.specs.Instr.{matches, row_of}
 use Rattle.rv32_table.specs.Word.{bits}
 use Rattle.rv32_table.specs.Fields.{fields_match, row_of_fields}
@@ -98,10 +98,10 @@ find-same p q r same (x ∷ xs) h =
     ap (λ b. cond b (Some x) (find p xs)) (same x both.0) ∙ ap (cond (q x) (Some x)) (find-same p q r same xs both.1)
 
 -- each line of the table is regular, by a test over the table
-all_regular : list_all (λ r. is_regular (line r)) rows ≡ true
+all_regular : list_all (λ r. is_regular (row_line r)) rows ≡ true
 all_regular = refl
 
 pub row_of-fields : (w : ℕ) → w < 2 ^ 32 → row_of w ≡ row_of_fields (bits w 6 0) (bits w 14 12) (bits w 31 25) w
 row_of-fields w h =
-    find-same (λ r. matches w (line r)) (λ r. fields_match (bits w 6 0) (bits w 14 12) (bits w 31 25) w (line r)) (λ r. is_regular (line r))
-    (λ r. matches-fields w (line r) h) rows all_regular
+    find-same (λ r. matches w (row_line r)) (λ r. fields_match (bits w 6 0) (bits w 14 12) (bits w 31 25) w (row_line r)) (λ r. is_regular (row_line r))
+    (λ r. matches-fields w (row_line r) h) rows all_regular

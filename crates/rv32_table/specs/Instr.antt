@@ -1,5 +1,5 @@
 -- What the table says of a word, and of a decoded instruction.
-use Rattle.std.specs.Prelude.{◌==◌, ◌<◌, ◌+◌, ◌*◌, ◌%◌, ◌^◌, ℕ, Bool, false, cond, Option, Some, None, bit_and, find}
+use Rattle.std.specs.Prelude.{◌==◌, ◌<◌, ◌+◌, ◌*◌, ◌%◌, ◌^◌, ℕ, Bool, false, if◌then◌else◌, Option, Some, None, bit_and, find}
 use Rattle.std.specs.Option.{option_map}
 use Rattle.rv32_table.specs.declared.rows.Row.{Row}
 use Rattle.rv32_table.specs.declared.instr.Instr.{Instr}
@@ -9,7 +9,7 @@ use Rattle.rv32_table.specs.declared.control.Next.{Next}
 use Rattle.rv32_table.specs.declared.control.Next.TheVariants.{Go, Misaligned}
 use Rattle.rv32_table.specs.declared.instr.Access.{Access}
 use Rattle.rv32_table.specs.Word.{wrapped, bits, sign_extended}
-use Rattle.rv32_table.specs.Table.{Format, NoImmediate, IType, SType, BType, UType, JType, Reads, ReadsNone, ReadsRs1, ReadsBoth, Operands, Meaning, Computes, Loads, Stores, Jumps, Branches, Fences, Stops, Line, line, rows}
+use Rattle.rv32_table.specs.Table.{Format, NoImmediate, IType, SType, BType, UType, JType, Reads, ReadsNone, ReadsRs1, ReadsBoth, Operands, Meaning, Computes, Loads, Stores, Jumps, Branches, Fences, Stops, Line, row_line, rows}
 
 -- the bits of a word under the mask of a line are its match
 abbrev pub matches : ℕ → Line → Bool
@@ -17,7 +17,7 @@ matches word l = bit_and word l.mask == l.matched
 
 -- the row of a word
 abbrev pub row_of : ℕ → Option Row
-row_of word = find (λ r. matches word (line r)) rows
+row_of word = find (λ r. matches word (row_line r)) rows
 
 -- the immediate of a word, extended by its sign (section 2.3)
 abbrev pub immediate_of : Format → ℕ → ℕ
@@ -25,10 +25,12 @@ immediate_of NoImmediate word = 0
 immediate_of IType word = sign_extended 12 (bits word 31 20)
 immediate_of SType word = sign_extended 12 (2 ^ 5 * bits word 31 25 + bits word 11 7)
 immediate_of BType word =
-    sign_extended 13 (2 ^ 12 * bits word 31 31 + 2 ^ 11 * bits word 7 7 + 2 ^ 5 * bits word 30 25 + 2 * bits word 11 8)
+    sign_extended 13 (2 ^ 12 * bits word 31 31 + 2 ^ 11 * bits word 7 7
+    + 2 ^ 5 * bits word 30 25 + 2 * bits word 11 8)
 immediate_of UType word = 2 ^ 12 * bits word 31 12
 immediate_of JType word =
-    sign_extended 21 (2 ^ 20 * bits word 31 31 + 2 ^ 12 * bits word 19 12 + 2 ^ 11 * bits word 20 20 + 2 * bits word 30 21)
+    sign_extended 21 (2 ^ 20 * bits word 31 31 + 2 ^ 12 * bits word 19 12
+    + 2 ^ 11 * bits word 20 20 + 2 * bits word 30 21)
 
 -- a word, read as an instruction of a row
 abbrev pub instr_of : ℕ → Row → Instr
@@ -37,7 +39,7 @@ instr_of word row = record {
   rd = bits word 11 7;
   rs1 = bits word 19 15;
   rs2 = bits word 24 20;
-  imm = immediate_of (line row).format word;
+  imm = immediate_of (row_line row).format word;
 }
 
 -- the instruction that a word is
@@ -55,7 +57,10 @@ abbrev pub rd_field : ℕ → ℕ
 rd_field word = bits word 11 7
 
 abbrev pub source_field : ℕ → ℕ → ℕ
-source_field word lane = cond (lane == 0) (bits word 19 15) (cond (lane == 1) (bits word 24 20) (bits word 31 27))
+source_field word lane =
+    if lane == 0 then bits word 19 15
+    else if lane == 1 then bits word 24 20
+    else bits word 31 27
 
 abbrev pub kind_by : Meaning → Kind
 kind_by (Computes value) = Alu
@@ -67,7 +72,7 @@ kind_by Fences = Fence
 kind_by Stops = Stop
 
 abbrev pub kind_of : Instr → Kind
-kind_of i = kind_by (line i.row).meaning
+kind_of i = kind_by (row_line i.row).meaning
 
 abbrev pub sources_by : Reads → ℕ → ℕ → Option ℕ × Option ℕ
 sources_by ReadsNone rs1 rs2 = (None, None)
@@ -76,11 +81,11 @@ sources_by ReadsBoth rs1 rs2 = (Some rs1, Some rs2)
 
 -- the registers that an instruction reads
 abbrev pub sources_of : Instr → Option ℕ × Option ℕ
-sources_of i = sources_by (line i.row).reads i.rs1 i.rs2
+sources_of i = sources_by (row_line i.row).reads i.rs1 i.rs2
 
 -- the register that it writes, which is never x0
 abbrev pub target_of : Instr → Option ℕ
-target_of i = cond (line i.row).writes (cond (i.rd == 0) None (Some i.rd)) None
+target_of i = if (row_line i.row).writes then (if i.rd == 0 then None else Some i.rd) else None
 
 -- what it computes from, with the values of rs1 and rs2 and its address
 abbrev pub operands_of : Instr → ℕ → ℕ → ℕ → Operands
@@ -93,20 +98,21 @@ value_by _ x = 0
 
 -- the value of rd, of an instruction that computes one or jumps
 abbrev pub value_of : Instr → ℕ → ℕ → ℕ → ℕ
-value_of i a b pc = value_by (line i.row).meaning (operands_of i a b pc)
+value_of i a b pc = value_by (row_line i.row).meaning (operands_of i a b pc)
 
 -- to a target, which has to be a multiple of 4 (section 2.5)
 abbrev pub to_target : ℕ → Next
-to_target target = cond (target % 4 == 0) (Go target) (Misaligned target)
+to_target target = if target % 4 == 0 then Go target else Misaligned target
 
 abbrev pub next_by : Meaning → Operands → Next
 next_by (Jumps target) x = to_target (target x)
-next_by (Branches taken) x = cond (taken x) (to_target (wrapped (x.pc + x.imm))) (Go (wrapped (x.pc + 4)))
+next_by (Branches taken) x =
+    if taken x then to_target (wrapped (x.pc + x.imm)) else Go (wrapped (x.pc + 4))
 next_by _ x = Go (wrapped (x.pc + 4))
 
 -- where the machine goes after an instruction
 abbrev pub next_of : Instr → ℕ → ℕ → ℕ → Next
-next_of i a b pc = next_by (line i.row).meaning (operands_of i a b pc)
+next_of i a b pc = next_by (row_line i.row).meaning (operands_of i a b pc)
 
 abbrev pub width_by : Meaning → ℕ
 width_by (Loads width signed) = width
@@ -121,6 +127,6 @@ signed_by _ = false
 abbrev pub access_of : Instr → ℕ → Access
 access_of i a = record {
   addr = wrapped (a + i.imm);
-  width = width_by (line i.row).meaning;
-  signed = signed_by (line i.row).meaning;
+  width = width_by (row_line i.row).meaning;
+  signed = signed_by (row_line i.row).meaning;
 }

@@ -1,4 +1,5 @@
 pub mod Word
 pub mod Table
 pub mod Instr
+pub mod Opcode
 pub mod Fields

@@ -1,4 +1,5 @@
-//! What the instructions of kind `Alu` compute (RISC-V Unprivileged ISA, section 2.4 and chapter 7).
+//! What the instructions of kind `Alu` compute (RISC-V Unprivileged ISA, section 2.4 and
+//! chapter 7).
 ghost use Rattle.std.specs.Prelude.{◌≡◌, ◌*ℤ◌, pos};
 ghost use Rattle.rv32_table.specs.Instr.{kind_of, value_of};
 ghost use Rattle.rv32_table.specs.Word.{signed, high_word, shifted_left, shifted_right, quotient, remainder};

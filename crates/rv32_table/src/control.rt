@@ -5,11 +5,13 @@ ghost use Rattle.rv32_table.specs.Instr.{kind_of, next_of, to_target};
 use crate::instr::{Instr, Kind};
 use crate::rows::Row;
 
-/// The address of the next instruction.
+/// Where the machine goes after an instruction.
 #[derive(Clone, Copy, Debug, PartialEq, Eq)]
 pub enum Next {
+    /// To the instruction at this address.
     Go(u32),
-    /// A taken target that is no multiple of 4.
+    /// Nowhere: the target is taken and no multiple of 4, which is an exception of the jump or branch
+    /// itself.
     Misaligned(u32),
 }
 

@@ -21,9 +21,9 @@ pub enum Kind {
     Stop,
 }
 
-/// A decoded instruction: its row, the register numbers in its fields, and its immediate, extended by
-/// its sign to 32 bits. Fields that the row doesn't use are decoded all the same; `imm` is 0 where
-/// the row has no immediate (RISC-V Unprivileged ISA, sections 2.2 and 2.3).
+/// A decoded instruction: its row, the register numbers in its fields, and its immediate, extended
+/// by its sign to 32 bits. Fields that the row doesn't use are decoded all the same; `imm` is 0
+/// where the row has no immediate (RISC-V Unprivileged ISA, sections 2.2 and 2.3).
 #[derive(Clone, Copy, Debug, PartialEq, Eq)]
 pub struct Instr {
     pub row: Row,
@@ -33,16 +33,19 @@ pub struct Instr {
     pub imm: u32,
 }
 
-/// The bytes of a load or a store: their first address, how many they are (1, 2 or 4), and whether
-/// the sign of what is loaded fills the register.
+/// The bytes that a load or a store accesses.
 #[derive(Clone, Copy, Debug, PartialEq, Eq)]
 pub struct Access {
+    /// The address of the first byte.
     pub addr: u32,
+    /// How many bytes: 1, 2 or 4.
     pub width: u8,
+    /// Whether the sign of what is loaded fills the register. A store has false here.
     pub signed: bool,
 }
 
 impl Instr {
+    /// What the machine does with it: which of `alu`, `access` and `branch` has its meaning.
     pub fn kind(&self) -> Kind
         ensures { result ≡ kind_of self.now }
     {
@@ -57,7 +60,8 @@ impl Instr {
         }
     }
 
-    /// The registers that are read, as rs1 and as rs2.
+    /// The registers that are read, as rs1 and as rs2: none where the row doesn't read it. x0 is
+    /// listed as any other.
     pub fn sources(&self) -> (Option<u8>, Option<u8>)
         ensures { result ≡ sources_of self.now }
     {
@@ -74,7 +78,8 @@ impl Instr {
         }
     }
 
-    /// The register that is written: none where the row writes none, and none for x0.
+    /// The register that is written: none where the row writes none, and none for x0, which is
+    /// always 0 (RISC-V Unprivileged ISA, section 2.1).
     pub fn target(&self) -> Option<u8>
         ensures { result ≡ target_of self.now }
     {

@@ -1,3 +1,5 @@
+//! The names of the instructions.
+
 /// A row of the instruction table: an instruction of RV32IM, by its name in the standard (RISC-V
 /// Unprivileged ISA, chapters 2 and 7).
 #[derive(Clone, Copy, Debug, PartialEq, Eq)]
