@@ -13,7 +13,7 @@ use Rattle.xif_signals.specs.declared.rule.Channel.{Channel}
 use Rattle.xif_signals.specs.declared.rule.Channel.TheVariants.{Issue, Register, Commit, Result as ResultChannel}
 use Rattle.xif_signals.specs.declared.rule.Rule.{Rule}
 use Rattle.xif_signals.specs.declared.rule.Rule.TheVariants.{K1, K2, H1, I1, I2, I3, I4, I5, G1, G2, G3, G4, G5, C1, C2, C3, R1, R2, R3, R4, R5, R6}
-use Rattle.xif_signals.specs.Channels.{channels, valid_of, key_of}
+use Rattle.xif_signals.specs.Channels.{first_failing_channel, valid_of, key_of}
 use Rattle.xif_signals.specs.Known.{when, has_flag}
 use Rattle.xif_session.specs.declared.fact.Response.{Response}
 use Rattle.xif_session.specs.declared.fact.Fact.{Fact}
@@ -52,7 +52,7 @@ has_hart params b channel = when (valid_of b channel) (nat_lt (key_of b channel)
 
 -- the first channel whose hartid is that of no hart
 abbrev pub lost_channel : Params → Bus → Option Channel
-lost_channel params b = find (λ channel. not (has_hart params b channel)) channels
+lost_channel params b = first_failing_channel (has_hart params b)
 
 abbrev pub keeps_I1 : Past → Bus → Bool
 keeps_I1 p b = when (issue_continues p b) (b.issue_instr == p.last.issue_instr)
