@@ -277,7 +277,7 @@ rule_C2 p b = (
       if_out (λ f. not (is_killed f.decision)) (λ f. is_killed f.decision ≡ false) (named p b (commit_key b)) (λ f q. not_out (is_killed f.decision) q) (k y.0 (not_in b.commit_kill y.1))),
 )
 
-before_in : (params : Params) (facts : Facts) (hart start bound : ℕ) → none_before facts hart start bound ≡ true
+pub before_in : (params : Params) (facts : Facts) (hart start bound : ℕ) → none_before facts hart start bound ≡ true
     → (id : ℕ) (f : Fact) → id < bound → facts (record { hart = hart; id = id }) ≡ Some f → IsTrue (is_pending (Some f)) → start ≤ f.start
 before_in params facts hart start zero h id f below e w = absurd (omega arith)
 before_in params facts hart start (suc n) h id f below e w =
@@ -293,7 +293,7 @@ before_in params facts hart start (suc n) h id f below e w =
         le_in start f.start (when_in (is_pending (Some f)) _ (sym (ap (tests.if_use (λ f. when (is_pending (Some f)) (nat_le start f.start))) same) ∙ here) w)
     go false q here r = r (less id n below (eqb-false id n q))
 
-before_out : (facts : Facts) (hart start bound : ℕ)
+pub before_out : (facts : Facts) (hart start bound : ℕ)
     → ((id : ℕ) (f : Fact) → id < bound → facts (record { hart = hart; id = id }) ≡ Some f → IsTrue (is_pending (Some f)) → start ≤ f.start) → none_before facts hart start bound ≡ true
 before_out facts hart start zero h = refl
 before_out facts hart start (suc n) h =

@@ -212,6 +212,11 @@ with_decision of_hart named kill fact = record fact {
 abbrev pub decided : (hart named : ℕ) → (kill : Bool) → Facts → Facts
 decided hart named kill facts key = option_map (with_decision (hart == key.hart) named kill) (facts key)
 
+-- A commit that isn't effective decides nothing.
+abbrev pub decided_from : Option ℕ → (hart : ℕ) → (kill : Bool) → Facts → Facts
+decided_from None hart kill facts = facts
+decided_from (Some start) hart kill facts = decided hart start kill facts
+
 -- a use ends with its result
 abbrev pub with_end : Bool → Fact → Fact
 with_end test fact = record fact { finished = fact.finished || test }
@@ -247,10 +252,8 @@ undecided_start (Some fact) = if is_undecided fact.decision then Some fact.start
 abbrev pub effective_start : Past → Bus → Option ℕ
 effective_start p b = if b.commit_valid then undecided_start (named p b (commit_key b)) else None
 
--- A commit that isn't effective decides nothing.
 abbrev pub decided_on : Bus → Option ℕ → Facts → Facts
-decided_on b None facts = facts
-decided_on b (Some start) facts = decided b.commit_hartid start b.commit_kill facts
+decided_on b start = decided_from start b.commit_hartid b.commit_kill
 
 -- The latest use by this cycle, with all that is said of it by the cycle, but for its end.
 abbrev pub now : Past → Bus → Facts

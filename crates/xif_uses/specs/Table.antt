@@ -8,7 +8,7 @@ use Rattle.xif_session.specs.declared.fact.Response.{Response}
 use Rattle.xif_session.specs.declared.fact.Decision.{Decision}
 use Rattle.xif_session.specs.declared.fact.Decision.TheVariants.{Undecided, Released, Killed}
 use Rattle.xif_session.specs.declared.fact.Fact.{Fact}
-use Rattle.xif_session.specs.Facts.{Facts, same_key, is_undecided, is_killed, is_covered, decision_after}
+use Rattle.xif_session.specs.Facts.{Facts, same_key, is_undecided, is_covered, verdict_of}
 use Rattle.xif_session.specs.Tests.{none_before}
 use Rattle.xif_uses.specs.declared.entry.Use.{Use}
 use Rattle.xif_uses.specs.declared.table.Decided.{Decided}
@@ -84,15 +84,12 @@ with_end latest = record latest { finished = true }
 abbrev pub StartsBefore : Table → ℕ → Type 0
 StartsBefore table cycle = (key : Key) → IsKey table.params key → IfSome (use_of table key) (λ entry. entry.start < cycle)
 
-abbrev pub with_kill : Decision → Bool → Bool
-with_kill decision ongoing = ongoing && not (is_killed decision)
-
 -- a use behind a decision on the uses of its hart
 abbrev pub decided_use : (named : ℕ) → (kill : Bool) → Use → Use
-decided_use named kill entry = record entry {
-  decision = decision_after (is_covered kill named entry.start) kill entry.decision;
-  ongoing = with_kill (decision_after (is_covered kill named entry.start) kill entry.decision) entry.ongoing;
-}
+decided_use named kill entry =
+    if is_covered kill named entry.start && is_undecided entry.decision
+    then record entry { decision = verdict_of kill; ongoing = entry.ongoing && not kill }
+    else entry
 
 -- the uses of one hart were decided, and the others are as they were
 pub record Decides (old new : Table) (hart named : ℕ) (kill : Bool) : Type 0 where
@@ -114,11 +111,19 @@ abbrev pub answer_by : (is_in_order kill : Bool) → Option Use → Decided
 answer_by is_in_order kill None = NoUse
 answer_by is_in_order kill (Some entry) = answer_to entry.decision kill is_in_order
 
--- in profile 1, or no use of the hart that started before this one was answered and is undecided
+-- no use of the hart that started before this one was answered and is undecided
+abbrev pub is_first_pending : Table → (hart start : ℕ) → Bool
+is_first_pending table hart start = none_before (facts_in table) hart start (2 ^ table.params.id_width)
+
+-- in profile 2 a kill of an undecided use has to be in order
 abbrev pub is_in_order : Table → Key → Option Use → Bool
 is_in_order table key None = true
-is_in_order table key (Some entry) =
-    not (table.params.profile == 2) || none_before (facts_in table) key.hart entry.start (2 ^ table.params.id_width)
+is_in_order table key (Some named) = not (table.params.profile == 2) || is_first_pending table key.hart named.start
 
 abbrev pub answer_of : Table → Key → (kill : Bool) → Decided
 answer_of table key kill = answer_by (is_in_order table key (use_of table key)) kill (use_of table key)
+
+-- where the uses of a hart were decided from this start on, or up to it; else nothing changed
+abbrev pub DecidesFrom : Table → Table → Key → (kill : Bool) → Option Use → Type 0
+DecidesFrom old new key kill None = new ≡ old
+DecidesFrom old new key kill (Some named) = Decides old new key.hart named.start kill

@@ -1,5 +1,5 @@
 //! The latest use of each key.
-ghost use Rattle.std.specs.Prelude.{◌≡◌, ◌<◌, ◌+◌, ◌*◌, ◌^◌, ℕ, List, Option, Some, None, true, false, length, replicate, IfOk, IfSome, IsSomeAnd, slice_index_or};
+ghost use Rattle.std.specs.Prelude.{◌≡◌, ◌≢◌, ◌==◌, ◌||◌, not, ◌<◌, ◌+◌, ◌*◌, ◌^◌, ℕ, List, Option, Some, None, true, false, length, replicate, IfOk, IfSome, IsSomeAnd, slice_index_or};
 ghost use Rattle.std.specs.Option.{option_map};
 ghost use Rattle.xif_base.specs.declared.params.Params.{Params};
 ghost use Rattle.xif_base.specs.Params.{IsInRange};
@@ -59,7 +59,7 @@ pub struct UseTable {
 }
 
 impl Model for UseTable {
-    ghost use Rattle.std.specs.Prelude.{◌≡◌, ◌≤◌, ◌*◌, ◌^◌, length, map, All};
+    ghost use Rattle.std.specs.Prelude.{◌≡◌, ◌≢◌, ◌==◌, ◌||◌, not, ◌≤◌, ◌*◌, ◌^◌, length, map, All};
     ghost use Rattle.xif_base.specs.Params.{IsInRange};
     ghost use Rattle.xif_uses.specs.Table.{Table};
     ghost use Rattle.xif_uses.specs.Slots.{live};
@@ -224,6 +224,64 @@ impl UseTable {
         }
     }
 
+    /// A commit names a key. Where its latest use is undecided, a release decides it and the undecided uses
+    /// of its hart that started earlier, and a kill decides it and those that started later (CV-X-IF 1.0.0,
+    /// "Commit interface"). Nothing changes otherwise.
+    pub fn decide(&mut self, key: Key, kill: bool) -> Decided
+        requires { IsKey self.old.params key }
+        ensures answer { result ≡ spec.answer_of self.old key kill }
+        ensures taken { result ≡ Decided.Taken → spec.DecidesFrom self.old self.new key kill (use_of self.old key) }
+        ensures kept { result ≢ Decided.Taken → self.new ≡ self.old }
+        ensures facts { (params : Params) (facts : Facts) → Represents self.old params facts → result ≢ Decided.OutOfOrder
+            → Represents self.new params (session.decided_from (session.undecided_start (facts key)) key.hart kill facts) }
+    {
+        let Some(named) = self.latest(key) else {
+            return Decided::NoUse;
+        };
+        match named.decision {
+            Decision::Released => return if kill { Decided::WasReleased } else { Decided::Repeat },
+            Decision::Killed => return if kill { Decided::Repeat } else { Decided::WasKilled },
+            Decision::Undecided => {}
+        }
+        if kill && !self.is_in_order(key.hart, named.start) {
+            return Decided::OutOfOrder;
+        }
+        self.decide_hart(key.hart, named.start, kill);
+        Decided::Taken
+    }
+
+    /// Whether a kill of a use of a hart with this start is in order.
+    fn is_in_order(&self, hart: u8, start: u64) -> bool
+        requires { hart < self.now.params.num_harts }
+        ensures { result ≡ (not (self.now.params.profile == 2) || spec.is_first_pending self.now hart start) }
+    {
+        self.params.profile != 2 || self.is_first_pending(hart, start)
+    }
+
+    fn is_first_pending(&self, hart: u8, start: u64) -> bool
+        requires { hart < self.now.params.num_harts }
+        ensures { result ≡ spec.is_first_pending self.now hart start }
+    {
+        for id in 0..id_count(&self.params) {
+            if let Some(latest) = self.latest(Key { hart, id }) && is_pending(&latest) && latest.start < start {
+                return false;
+            }
+        }
+        true
+    }
+
+    fn decide_hart(&mut self, hart: u8, named: u64, kill: bool)
+        requires { hart < self.old.params.num_harts }
+        ensures { Decides self.old self.new hart named kill }
+    {
+        for id in 0..id_count(&self.params) {
+            let key = Key { hart, id };
+            if let Some(latest) = self.latest(key) {
+                self.put(key, decided_use(latest, named, kill));
+            }
+        }
+    }
+
     fn put(&mut self, key: Key, latest: Use)
         requires { IsKey self.old.params key }
         ensures { Sets self.old self.new key (Some latest) }
@@ -244,6 +302,14 @@ impl UseTable {
     }
 }
 
+/// How many ids a hart has.
+fn id_count(params: &Params) -> u16
+    requires { IsInRange params.now }
+    ensures { result ≡ 2 ^ params.now.id_width }
+{
+    1 << params.id_width
+}
+
 /// How many keys the interface has.
 fn key_count(params: &Params) -> usize
     requires { IsInRange params.now }
@@ -258,5 +324,36 @@ fn empty_all(slots: &mut [Slot])
 {
     for place in 0..slots.len() {
         slots[place] = EMPTY;
+    }
+}
+
+/// Whether a use was answered and is undecided.
+fn is_pending(latest: &Use) -> bool
+    ensures { result ≡ session.is_pending (Some (spec.fact_of latest.now)) }
+{
+    latest.response.is_some() && latest.decision == Decision::Undecided
+}
+
+/// The use after a commit that decides from a named start.
+fn decided_use(latest: Use, named: u64, kill: bool) -> Use
+    ensures { result ≡ spec.decided_use named kill latest }
+{
+    let is_covered = if kill {
+        named <= latest.start
+    } else {
+        latest.start <= named
+    };
+    if !is_covered || latest.decision != Decision::Undecided {
+        return latest;
+    }
+    let decision = if kill {
+        Decision::Killed
+    } else {
+        Decision::Released
+    };
+    Use {
+        ongoing: latest.ongoing && !kill,
+        decision,
+        ..latest
     }
 }
