@@ -2,7 +2,7 @@
 use Rattle.std.specs.Prelude.{◌≡◌, ◌≤◌, ◌<◌, ◌==◌, ◌&&◌, ◌||◌, ◌^◌, ◌⊎◌, ℕ, Bool, true, not, List, [], ◌∷◌, nat_lt, nat_le}
 use Rattle.xif_base.specs.declared.params.Params.{Params}
 use Rattle.xif_base.specs.declared.params.ParamFault.{ParamFault}
-use Rattle.xif_base.specs.declared.params.ParamFault.TheVariants.{NumRs, IdWidth, RfrWidth, RfwWidth, NumHarts, HartidWidth, DualRead}
+use Rattle.xif_base.specs.declared.params.ParamFault.TheVariants.{NumRs, IdWidth, RfrWidth, RfwWidth, NumHarts, HartidWidth, DualRead, Profile}
 
 -- a register of the file has 32 bits; a port for register pairs has 64
 abbrev pub IsPortWidth : ℕ → Type 0
@@ -21,6 +21,7 @@ pub record IsInRange (p : Params) : Type 0 where
   -- each hart has an id of its own
   pub hartids : p.num_harts ≤ 2 ^ p.hartid_width
   pub dual_read : p.dual_read ≤ p.num_rs
+  pub profile : (1 ≤ p.profile) × (p.profile ≤ 2)
 
 -- the same as tests
 abbrev pub within : ℕ → ℕ → ℕ → Bool
@@ -43,4 +44,5 @@ ranges p =
     ∷ (within 1 4 p.num_harts, NumHarts)
     ∷ (has_hartids p.hartid_width p.num_harts, HartidWidth)
     ∷ (within 0 p.num_rs p.dual_read, DualRead)
+    ∷ (within 1 2 p.profile, Profile)
     ∷ []

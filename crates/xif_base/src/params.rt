@@ -27,6 +27,9 @@ pub struct Params {
     /// X_ISSUE_REGISTER_SPLIT: whether source registers are sent on their own channel, which can be
     /// later than the issue of the instruction.
     pub split: bool,
+    /// The profile of the rules, 1 or 2. In profile 2 kills come in issue order, and a refused
+    /// instruction keeps its id until it is decided.
+    pub profile: u8,
 }
 
 /// A parameter that is out of its range.
@@ -46,6 +49,7 @@ pub enum ParamFault {
     HartidWidth,
     /// X_DUALREAD.
     DualRead,
+    Profile,
 }
 
 /// What distinguishes instructions in flight (CV-X-IF 1.0.0, `hartid` and `id` of the channels).
@@ -78,6 +82,8 @@ impl Params {
             Err(ParamFault::HartidWidth)
         } else if self.dual_read > self.num_rs {
             Err(ParamFault::DualRead)
+        } else if self.profile < 1 || self.profile > 2 {
+            Err(ParamFault::Profile)
         } else {
             Ok(())
         }

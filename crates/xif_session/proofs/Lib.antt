@@ -1,0 +1,3 @@
+pub mod Options
+pub mod RuleTests
+pub mod Places

@@ -1,0 +1,5 @@
+pub mod Facts
+pub mod Rules
+pub mod Legal
+pub mod Tests
+pub mod Uses
