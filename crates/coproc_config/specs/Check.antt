@@ -1,7 +1,7 @@
 -- The checks of a set.
 use Rattle.std.specs.Prelude.{◌≡◌, ◌==◌, ◌&&◌, ◌+◌, ◌++◌, ℕ, Bool, true, List, [], ◌∷◌, length, Ok, nat_lt, nat_le, bit_and}
 use Rattle.std.specs.List.{flat_map, enumerate_from}
-use Rattle.xif_base.specs.Checks.{first_fault}
+use Rattle.xif_base.specs.Checks.{first_failing}
 use Rattle.coproc_config.specs.declared.operation.Names.{Names}
 use Rattle.coproc_config.specs.declared.operation.Names.TheVariants as names
 use Rattle.coproc_config.specs.declared.check.SetFault.{SetFault}
@@ -62,4 +62,4 @@ checks units =
 
 -- no check of a set fails
 abbrev pub IsLawful : List UnitTable → Type 0
-IsLawful units = first_fault (checks units) ≡ Ok tt
+IsLawful units = first_failing (checks units) ≡ Ok tt

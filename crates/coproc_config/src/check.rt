@@ -1,7 +1,7 @@
 //! The checks of a set, which a set has to pass before it is used.
 ghost use Rattle.std.specs.Prelude.{◌≡◌, ◌≤◌, ◌↔◌, ◌+◌, ◌&&◌, nat_lt, nat_le, Ok, length, IsOk};
 ghost use Rattle.std.specs.List.{flat_map};
-ghost use Rattle.xif_base.specs.Checks.{first_fault};
+ghost use Rattle.xif_base.specs.Checks.{first_failing};
 ghost use Rattle.coproc_config.specs.Set.{places_of};
 ghost use Rattle.coproc_config.specs.Check.{unit_checks, entry_checks, size_checks, all_entry_checks, checks, IsLawful};
 
@@ -37,7 +37,7 @@ impl Set {
     /// the units in order, then those of the entries in unit order and then entry order.
     pub fn check(&self) -> Result<(), SetFault>
         ensures lawful { IsOk result ↔ IsLawful self.now }
-        ensures first { result ≡ first_fault (checks self.now) }
+        ensures first { result ≡ first_failing (checks self.now) }
     {
         if self.len() > 8 {
             return Err(SetFault {
@@ -52,7 +52,7 @@ impl Set {
 
     fn check_sizes(&self) -> Result<(), SetFault>
         requires { length self.now ≤ 8 }
-        ensures { result ≡ first_fault (size_checks self.now) }
+        ensures { result ≡ first_failing (size_checks self.now) }
     {
         for i in 0..self.len() {
             self.get(i).check_sizes(i as u16)?;
@@ -62,8 +62,8 @@ impl Set {
 
     fn check_entries(&self) -> Result<(), SetFault>
         requires units { length self.now ≤ 8 }
-        requires sizes { first_fault (size_checks self.now) ≡ Ok tt }
-        ensures { result ≡ first_fault (all_entry_checks self.now) }
+        requires sizes { first_failing (size_checks self.now) ≡ Ok tt }
+        ensures { result ≡ first_failing (all_entry_checks self.now) }
     {
         for i in 0..self.len() {
             self.get(i).check_entries(i as u16)?;
@@ -74,7 +74,7 @@ impl Set {
 
 impl Unit {
     fn check_sizes(&self, unit: u16) -> Result<(), SetFault>
-        ensures { result ≡ first_fault (unit_checks (unit, self.now)) }
+        ensures { result ≡ first_failing (unit_checks (unit, self.now)) }
     {
         let cause = if self.len() > 32 {
             SetCause::TooManyEntries
@@ -92,7 +92,7 @@ impl Unit {
 
     fn check_entries(&self, unit: u16) -> Result<(), SetFault>
         requires { length self.now.entries ≤ 32 }
-        ensures { result ≡ first_fault (flat_map entry_checks (places_of (unit, self.now))) }
+        ensures { result ≡ first_failing (flat_map entry_checks (places_of (unit, self.now))) }
     {
         let accumulators = self.accumulators;
         for i in 0..self.len() {
@@ -105,7 +105,7 @@ impl Unit {
 impl Entry {
     /// The checks of an entry, which is the one with this number of the unit with that one.
     fn check(&self, accumulators: u8, unit: u16, entry: u16) -> Result<(), SetFault>
-        ensures { result ≡ first_fault (entry_checks (record {
+        ensures { result ≡ first_failing (entry_checks (record {
           unit = unit;
           entry = entry;
           accumulators = accumulators;

@@ -68,6 +68,7 @@ const PARAMS: Params = Params {
     dual_read: 0,
     dual_write: false,
     split: true,
+    profile: 1,
 };
 
 /// The number of the samples of a waveform. No more than a piece of it is in memory.

@@ -2,7 +2,7 @@
 use Rattle.std.proofs.Common.{◌≡◌, ◌⊎◌, ℕ, ◌&&◌, ◌||◌, Bool, true, false, not, cond, List, [], ◌∷◌, ◌++◌, take, Some, inl, inr, refl, sym, ap, ◌∙◌, subst}
 use Rattle.std.specs.Prelude.{unwrap_or, codes}
 use Rattle.std.specs.List.{fold}
-use Rattle.xif_base.specs.Checks.{first_fault}
+use Rattle.xif_base.specs.Checks.{first_failing}
 use Rattle.vcd_text.specs.declared.fault.VcdCause.TheVariants.{BadToken, OpenBlock}
 use Rattle.vcd_text.specs.declared.fault.VcdFault.{VcdFault}
 use Rattle.vcd_text.specs.declared.item.Item.{Item}
@@ -58,12 +58,12 @@ split_block (t ∷ ts) first words e =
 -- tokens are read as a phrase's
 abbrev IsReadSo : List Item → Context → Phrase → List Token → Type 0
 IsReadSo items c p ts =
-    fold go (said (state_of c) items) ts ≡ moved (said (state_of c) items) (outcome c p ts (first_fault (demands c p)))
+    fold go (said (state_of c) items) ts ≡ moved (said (state_of c) items) (outcome c p ts (first_failing (demands c p)))
 
 block-phrase : (items : List Item) (c : Context) (p : Phrase) (ts : List Token) (first : List ℕ) (k : Keyword) (words : List (List ℕ))
     → (c.is_declared ≡ false) × (are_block_words words ≡ true) → texts ts ≡ block_tokens first words
     → ((s : State) (at : ℕ) → declaration s (record { at = at; text = first }) ≡ goes (with_part s (Block at k [])))
-    → ((t : Token) (more : List Token) → block (state_of c) t.at k (take 4 words) ≡ outcome c p (t ∷ more) (first_fault (demands c p)))
+    → ((t : Token) (more : List Token) → block (state_of c) t.at k (take 4 words) ≡ outcome c p (t ∷ more) (first_failing (demands c p)))
     → IsReadSo items c p ts
 block-phrase items c p ts first k words form e o h =
     let s = split_block ts first words e in
@@ -75,14 +75,14 @@ block-phrase items c p ts first k words form e o h =
     ∙ ap (moved (said (state_of c) items)) (h s.0 (s.1 ++ s.2 ∷ [])))
 
 single-phrase : (items : List Item) (c : Context) (p : Phrase) (ts : List Token) (w : List ℕ) → texts ts ≡ w ∷ []
-    → ((t : Token) → t.text ≡ w → step (state_of c) t ≡ outcome c p (t ∷ []) (first_fault (demands c p))) → IsReadSo items c p ts
+    → ((t : Token) → t.text ≡ w → step (state_of c) t ≡ outcome c p (t ∷ []) (first_failing (demands c p))) → IsReadSo items c p ts
 single-phrase items c p ts w e h =
     let s = split_one ts w e in
     subst (IsReadSo items c p) (sym s.1) (ap (moved (said (state_of c) items)) (h s.0 s.2))
 
 pair-phrase : (items : List Item) (c : Context) (p : Phrase) (ts : List Token) (v w : List ℕ) (part : ℕ → Part) → texts ts ≡ v ∷ w ∷ []
     → ((t : Token) → t.text ≡ v → step (state_of c) t ≡ goes (with_part (state_of c) (part t.at)))
-    → ((t u : Token) → u.text ≡ w → in_part (part t.at) (state_of c) u ≡ outcome c p (t ∷ u ∷ []) (first_fault (demands c p))) → IsReadSo items c p ts
+    → ((t u : Token) → u.text ≡ w → in_part (part t.at) (state_of c) u ≡ outcome c p (t ∷ u ∷ []) (first_failing (demands c p))) → IsReadSo items c p ts
 pair-phrase items c p ts v w part e o h =
     let s = split_two ts v w e in
     let t = s.0 in

@@ -3,7 +3,7 @@ use Rattle.std.proofs.Common.{◌≡◌, ◌⊎◌, ℕ, ◌&&◌, ◌||◌, ◌
 use Rattle.std.specs.Prelude.{codes}
 use Rattle.std.proofs.lemmas.Bool.{eqb-true}
 use Rattle.std.proofs.lemmas.List.{append-nil, map-append}
-use Rattle.xif_base.specs.Checks.{first_fault}
+use Rattle.xif_base.specs.Checks.{first_failing}
 use Rattle.vcd_text.specs.declared.fault.VcdCause.{VcdCause}
 use Rattle.vcd_text.specs.declared.fault.VcdCause.TheVariants.{OpenBlock, NoDefinitionsEnd}
 use Rattle.vcd_text.specs.declared.fault.VcdFault.{VcdFault}
@@ -58,9 +58,9 @@ splits-then c p ts end h (inr s) = inr (record {
 
 -- a phrase, well formed or not
 splits-phrase : (c : Context) (p : PlacedPhrase) (ts : List Token) (end : ℕ) → IsPhrase c p → Splits (after c p.phrase) ts end → Splits c (p.tokens ++ ts) end
-splits-phrase c p ts end h more = by (first_fault (demands c p.phrase)) refl
+splits-phrase c p ts end h more = by (first_failing (demands c p.phrase)) refl
   where
-    by : (r : Result Unit VcdCause) → first_fault (demands c p.phrase) ≡ r → Splits c (p.tokens ++ ts) end
+    by : (r : Result Unit VcdCause) → first_failing (demands c p.phrase) ≡ r → Splits c (p.tokens ++ ts) end
     by (Ok u) e = splits-then c p ts end (record { phrase = h; met = e }) more
     by (Err cause) e =
         stops-here c (p.tokens ++ ts) end (record { at = fault_place cause p.tokens; cause = cause })

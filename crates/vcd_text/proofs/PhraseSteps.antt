@@ -7,7 +7,7 @@ use Rattle.std.specs.Str.{bytes_eq, is_utf8}
 use Rattle.std.proofs.lemmas.Bool.{eqb-true}
 use Rattle.std.proofs.lemmas.List.{append-nil}
 use Rattle.std.proofs.lemmas.Slice.Eq.{bytes_eq-Decides}
-use Rattle.xif_base.specs.Checks.{first_fault}
+use Rattle.xif_base.specs.Checks.{first_failing}
 use Rattle.vcd_text.specs.declared.digit.Digit.{Digit}
 use Rattle.vcd_text.specs.declared.fault.VcdCause.{VcdCause}
 use Rattle.vcd_text.specs.declared.fault.VcdCause.TheVariants.{BadToken, BadVar, SizeDiffers, UnknownCode, TooWide, TimeBack}
@@ -153,40 +153,40 @@ if_so true x y z h k = h refl
 if_so false x y z h k = k refl
 
 pub scope-is : (c : Context) (t : Token) (ts : List Token) (words : List (List ℕ))
-    → scope (state_of c) t.at (take 4 words) ≡ outcome c (ScopeBlock words) (t ∷ ts) (first_fault (demands c (ScopeBlock words)))
+    → scope (state_of c) t.at (take 4 words) ≡ outcome c (ScopeBlock words) (t ∷ ts) (first_failing (demands c (ScopeBlock words)))
 scope-is c t ts [] = refl
 scope-is c t ts (kind ∷ []) = refl
 scope-is c t ts (kind ∷ name ∷ more) = by (nat_lt (length c.scopes) 64) (is_utf8 name)
   where
     by : (x y : Bool) → cond (x && y) (goes (record (state_of c) { scopes = c.scopes ++ name ∷ [] })) (fault BadToken t.at)
-        ≡ outcome c (ScopeBlock (kind ∷ name ∷ more)) (t ∷ ts) (first_fault ((x, BadToken) ∷ (y, BadToken) ∷ []))
+        ≡ outcome c (ScopeBlock (kind ∷ name ∷ more)) (t ∷ ts) (first_failing ((x, BadToken) ∷ (y, BadToken) ∷ []))
     by true true = refl
     by true false = refl
     by false y = refl
 
 pub upscope-is : (c : Context) (t : Token) (ts : List Token) (words : List (List ℕ))
-    → upscope (state_of c) t.at ≡ outcome c (UpscopeBlock words) (t ∷ ts) (first_fault (demands c (UpscopeBlock words)))
+    → upscope (state_of c) t.at ≡ outcome c (UpscopeBlock words) (t ∷ ts) (first_failing (demands c (UpscopeBlock words)))
 upscope-is c t ts words = by (length c.scopes == 0)
   where
     by : (x : Bool) → cond x (fault BadToken t.at) (goes (record (state_of c) { scopes = take (length c.scopes - 1) c.scopes }))
-        ≡ outcome c (UpscopeBlock words) (t ∷ ts) (first_fault ((not x, BadToken) ∷ []))
+        ≡ outcome c (UpscopeBlock words) (t ∷ ts) (first_failing ((not x, BadToken) ∷ []))
     by true = refl
     by false = refl
 
 var_at-is : (c : Context) (t : Token) (ts : List Token) (words : List (List ℕ)) (size : ℕ) (code name : List ℕ) (known : Option (ℕ × ℕ))
     → after c (VarBlock words) ≡ with_variable c size code name known
-    → var_at (state_of c) t.at code size name known ≡ outcome c (VarBlock words) (t ∷ ts) (first_fault ((has_size size known, SizeDiffers) ∷ []))
+    → var_at (state_of c) t.at code size name known ≡ outcome c (VarBlock words) (t ∷ ts) (first_failing ((has_size size known, SizeDiffers) ∷ []))
 var_at-is c t ts words size code name None e = ap (λ (n : Context). goes (state_of n)) (sym e)
 var_at-is c t ts words size code name (Some known) e = by (known.1 == size)
   where
     by : (x : Bool) → cond x (goes (state_of (with_variable c size code name (Some known)))) (fault SizeDiffers t.at)
-        ≡ outcome c (VarBlock words) (t ∷ ts) (first_fault ((x, SizeDiffers) ∷ []))
+        ≡ outcome c (VarBlock words) (t ∷ ts) (first_failing ((x, SizeDiffers) ∷ []))
     by true = ap (λ (n : Context). goes (state_of n)) (sym e)
     by false = refl
 
 var_sized-is : (c : Context) (t : Token) (ts : List Token) (words : List (List ℕ)) (code name : List ℕ) (o : Option ℕ)
     → after c (VarBlock words) ≡ with_variable c (unwrap_or o 0) code name (code_from 0 code c.codes)
-    → var_sized (state_of c) t.at code name o ≡ outcome c (VarBlock words) (t ∷ ts) (first_fault (var_demands c o code name))
+    → var_sized (state_of c) t.at code name o ≡ outcome c (VarBlock words) (t ∷ ts) (first_failing (var_demands c o code name))
 var_sized-is c t ts words code name None e = refl
 var_sized-is c t ts words code name (Some size) e = by (nat_le size 1048576) (is_code code) (is_utf8 name)
   where
@@ -194,14 +194,14 @@ var_sized-is c t ts words code name (Some size) e = by (nat_le size 1048576) (is
     known = code_from 0 code c.codes
 
     by : (x y z : Bool) → cond ((x && y) && z) (var_at (state_of c) t.at code size name (code_from 0 code c.codes)) (fault BadVar t.at)
-        ≡ outcome c (VarBlock words) (t ∷ ts) (first_fault ((x, BadVar) ∷ (y, BadVar) ∷ (z, BadVar) ∷ (has_size size (code_from 0 code c.codes), SizeDiffers) ∷ []))
+        ≡ outcome c (VarBlock words) (t ∷ ts) (first_failing ((x, BadVar) ∷ (y, BadVar) ∷ (z, BadVar) ∷ (has_size size (code_from 0 code c.codes), SizeDiffers) ∷ []))
     by true true true = var_at-is c t ts words size code name (code_from 0 code c.codes) e
     by true true false = refl
     by true false z = refl
     by false y z = refl
 
 pub var-is : (c : Context) (t : Token) (ts : List Token) (words : List (List ℕ))
-    → var (state_of c) t.at (take 4 words) ≡ outcome c (VarBlock words) (t ∷ ts) (first_fault (demands c (VarBlock words)))
+    → var (state_of c) t.at (take 4 words) ≡ outcome c (VarBlock words) (t ∷ ts) (first_failing (demands c (VarBlock words)))
 var-is c t ts [] = refl
 var-is c t ts (a ∷ []) = refl
 var-is c t ts (a ∷ b ∷ []) = refl
@@ -283,23 +283,23 @@ stands-command s at EndDefinitions e = absurd cc
 stands-command s at Other e = absurd cc
 
 pub time-is : (c : Context) (t : Token) (bytes : List ℕ) (o : Option ℕ) → number bytes ≡ o
-    → time_of (state_of c) t.at o ≡ outcome c (SimulationTime bytes) (t ∷ []) (first_fault (time_demands c o))
+    → time_of (state_of c) t.at o ≡ outcome c (SimulationTime bytes) (t ∷ []) (first_failing (time_demands c o))
 time-is c t bytes None e = refl
 time-is c t bytes (Some n) e = by (nat_le c.time n)
   where
     by : (x : Bool) → cond x (Ok (record (state_of c) { time = n }, Some (Time n))) (fault TimeBack t.at)
-        ≡ outcome c (SimulationTime bytes) (t ∷ []) (first_fault ((x, TimeBack) ∷ []))
+        ≡ outcome c (SimulationTime bytes) (t ∷ []) (first_failing ((x, TimeBack) ∷ []))
     by true = ap (λ (o : Option ℕ). Ok (state_of (record c { time = unwrap_or o c.time }), option_map (λ time. Time time) o)) (sym e)
     by false = refl
 
 pub change-is : (c : Context) (p : Phrase) (ts : List Token) (at code_at : ℕ) (ds : List Digit) (known : Option (ℕ × ℕ))
     → says c p ≡ change_said ds known → after c p ≡ c → fault_place UnknownCode ts ≡ code_at → fault_place TooWide ts ≡ at
-    → change_of (state_of c) at code_at ds known ≡ outcome c p ts (first_fault (change_demands ds known))
+    → change_of (state_of c) at code_at ds known ≡ outcome c p ts (first_failing (change_demands ds known))
 change-is c p ts at code_at ds None e f g h = ap (fault UnknownCode) (sym g)
 change-is c p ts at code_at ds (Some known) e f g h = by (nat_le (length ds) known.1)
   where
     by : (x : Bool) → cond x (Ok (state_of c, Some (Change known.0 ds))) (fault TooWide at)
-        ≡ outcome c p ts (first_fault ((x, TooWide) ∷ []))
+        ≡ outcome c p ts (first_failing ((x, TooWide) ∷ []))
     by true = ap (λ (n : Context). Ok (state_of n, Some (Change known.0 ds))) (sym f) ∙ ap (λ o. Ok (state_of (after c p), o)) (sym e)
     by false = ap (fault TooWide) (sym h)
 
@@ -323,7 +323,7 @@ scalar-body s at b bs h =
     if_so (b == dollar_sign) _ _ _ (λ e. absurd (digit-no 36 b bs (eqb-true b 36 e) refl h)) (λ _. refl))))
 
 pub scalar-is : (c : Context) (t : Token) (value : ℕ) (code : List ℕ) (o : Option Digit) → digit value ≡ o → has_digit_and_code o code ≡ true
-    → scalar (state_of c) t.at o code ≡ outcome c (ScalarChange value code) (t ∷ []) (first_fault (demands c (ScalarChange value code)))
+    → scalar (state_of c) t.at o code ≡ outcome c (ScalarChange value code) (t ∷ []) (first_failing (demands c (ScalarChange value code)))
 scalar-is c t value code None e h = absurd cc
 scalar-is c t value [] (Some d) e h = absurd cc
 scalar-is c t value (b ∷ bs) (Some d) e h =
@@ -331,7 +331,7 @@ scalar-is c t value (b ∷ bs) (Some d) e h =
     let known = code_from 0 (b ∷ bs) c.codes in
     let ts : List Token = t ∷ [] in
     change-is c (ScalarChange value (b ∷ bs)) ts t.at t.at (d ∷ []) known (ap (λ ds. change_said ds known) same) refl refl refl
-    ∙ ap (λ ds. outcome c (ScalarChange value (b ∷ bs)) ts (first_fault (change_demands ds known))) (sym same)
+    ∙ ap (λ ds. outcome c (ScalarChange value (b ∷ bs)) ts (first_failing (change_demands ds known))) (sym same)
 
 pub vector-opens : (s : State) (at : ℕ) (o : Option (List Digit)) → has_digits o ≡ true → vector s at o ≡ goes (with_part s (Vector at (unwrap_or o [])))
 vector-opens s at None h = absurd cc

@@ -5,7 +5,7 @@ use Rattle.xif_base.specs.declared.params.Params.{Params}
 use Rattle.xif_signals.specs.declared.bus.Bus.{Bus}
 use Rattle.xif_signals.specs.declared.sample.Quad.{Quad}
 use Rattle.xif_signals.specs.declared.signal.Signal.{Signal}
-use Rattle.xif_signals.specs.Signal.{number_of, code_of, width_of}
+use Rattle.xif_signals.specs.Signal.{signal_number, code_of, width_of}
 use Rattle.xif_signals.specs.Bus.{sample_of, FitsWidths}
 use Rattle.vcd_text.specs.declared.declaration.Variable.{Variable}
 use Rattle.vcd_text.specs.declared.item.Item.TheVariants.{Time, Change}
@@ -25,7 +25,7 @@ module _ (p : Params) (cs : List Code) (vs : List Variable) where
   says-one at t k s v true e w f = says-nothing at (in_body cs vs t)
   says-one at t k s v false e w f =
       subst (λ c. Says at (in_body cs vs t) (change_line (width_of s p) c v) (in_body cs vs t) (Change k (bits v) ∷ [])) (sym (code_is s))
-      (says-change cs vs at t (33 + number_of s) k (width_of s p) v (omega arith) (ap (λ c. code_from 0 c cs) (sym (code_is s)) ∙ e) w f)
+      (says-change cs vs at t (33 + signal_number s) k (width_of s p) v (omega arith) (ap (λ c. code_from 0 c cs) (sym (code_is s)) ∙ e) w f)
 
   says-changes : (at t : ℕ) (a : Option (List Quad)) (b : List Quad) (k : ℕ) (ss : List Signal) → Found cs p k ss → AllByRecursion (λ s. 0 < width_of s p) ss → Fits p b
       → Says at (in_body cs vs t) (flat_map (changed_line p a b) ss) (in_body cs vs t) (change_items a b k ss)

@@ -9,7 +9,7 @@ use Rattle.std.proofs.lemmas.List.{append-nil, length-append}
 use Rattle.xif_base.specs.declared.params.Params.{Params}
 use Rattle.xif_base.specs.Params.{IsInRange}
 use Rattle.xif_signals.specs.declared.signal.Signal.{Signal}
-use Rattle.xif_signals.specs.Signal.{number_of, code_of, name_of, width_of}
+use Rattle.xif_signals.specs.Signal.{signal_number, code_of, name_of, width_of}
 use Rattle.vcd_text.specs.declared.keyword.Keyword.TheVariants.{Var}
 use Rattle.vcd_text.specs.declared.state.Part.TheVariants.{Nothing, Block}
 use Rattle.vcd_text.specs.declared.state.State.{State}
@@ -135,7 +135,7 @@ says-var p at cs vs k sig h l e =
 
 -- no code of a signal from a number on is among the codes
 abbrev Fresh : ℕ → List Code → Type 0
-Fresh n cs = (s : Signal) → n ≤ number_of s → code_from 0 (code_of s) cs ≡ None
+Fresh n cs = (s : Signal) → n ≤ signal_number s → code_from 0 (code_of s) cs ≡ None
 
 -- what is found where the first code is another
 other_code : (n : ℕ) (text : List ℕ) (c : Code) (cs : List Code) → bytes_eq text c.text ≡ false → code_from n text (c ∷ cs) ≡ code_from (n + 1) text cs
@@ -160,8 +160,8 @@ code_push text cs d g e = behind 0 text cs (d ∷ []) e ∙ other_code (0 + leng
 apart : (m n : ℕ) → n + 1 ≤ m → (m == n) ≡ false
 apart m n h = grind (arith, nat_tests)
 
-fresh-push : (p : Params) (n : ℕ) (s : Signal) (cs : List Code) → n ≤ number_of s → Fresh n cs → Fresh (number_of s + 1) (cs ++ code p s ∷ [])
-fresh-push p n s cs le h other above = code_push (code_of other) cs (code p s) (codes_same other s ∙ apart (number_of other) (number_of s) above) (h other (omega arith))
+fresh-push : (p : Params) (n : ℕ) (s : Signal) (cs : List Code) → n ≤ signal_number s → Fresh n cs → Fresh (signal_number s + 1) (cs ++ code p s ∷ [])
+fresh-push p n s cs le h other above = code_push (code_of other) cs (code p s) (codes_same other s ∙ apart (signal_number other) (signal_number s) above) (h other (omega arith))
 
 says-vars : (p : Params) → IsInRange p → (at : ℕ) (cs : List Code) (vs : List Variable) (k n : ℕ) (ss : List Signal) → length cs ≡ k → Rise n ss → Fresh n cs
     → Says at (inside cs vs) (flat_map (var_line p) ss) (inside (cs ++ codes_of p ss) (vs ++ variables_from p k ss)) []
@@ -175,7 +175,7 @@ says-vars p r at cs vs k n (s ∷ ss) l rise fresh =
     ∙ ap (inside (cs ++ codes_of p (s ∷ ss))) (append_assoc vs (variable p k s ∷ []) (variables_from p (k + 1) ss)))
     (says-then at (inside cs vs) m t (var_line p s) (flat_map (var_line p) ss) [] []
     (says-var p at cs vs k s (width_fits p r s) l (fresh s rise.0))
-    (says-vars p r (at + length (var_line p s)) (cs ++ code p s ∷ []) (vs ++ variable p k s ∷ []) (k + 1) (number_of s + 1) ss (omega (arith, length-append cs (code p s ∷ []))) rise.1 (fresh-push p n s cs rise.0 fresh)))
+    (says-vars p r (at + length (var_line p s)) (cs ++ code p s ∷ []) (vs ++ variable p k s ∷ []) (k + 1) (signal_number s + 1) ss (omega (arith, length-append cs (code p s ∷ []))) rise.1 (fresh-push p n s cs rise.0 fresh)))
 
 -- ---- the header
 
@@ -214,14 +214,14 @@ itself n = grind (arith, nat_tests)
 found_first : (p : Params) (cs : List Code) (s : Signal) (ds : List Code) → code_from 0 (code_of s) cs ≡ None → code_from 0 (code_of s) (cs ++ code p s ∷ ds) ≡ Some (length cs, width_of s p)
 found_first p cs s ds e =
     behind 0 (code_of s) cs (code p s ∷ ds) e
-    ∙ this_code (0 + length cs) (code_of s) (code p s) ds (codes_same s s ∙ itself (number_of s))
+    ∙ this_code (0 + length cs) (code_of s) (code p s) ds (codes_same s s ∙ itself (signal_number s))
     ∙ ap (λ (m : ℕ). Some (m, width_of s p)) (omega arith)
 
 pub found_from : (p : Params) (cs all : List Code) (k n : ℕ) (ss : List Signal) → length cs ≡ k → Rise n ss → Fresh n cs → all ≡ cs ++ codes_of p ss → Found all p k ss
 found_from p cs all k n [] l rise fresh e = tt
 found_from p cs all k n (s ∷ ss) l rise fresh e = (
   record { place = ap (code_from 0 (code_of s)) e ∙ found_first p cs s (codes_of p ss) (fresh s rise.0) ∙ ap (λ (m : ℕ). Some (m, width_of s p)) l },
-  found_from p (cs ++ code p s ∷ []) all (k + 1) (number_of s + 1) ss (omega (arith, length-append cs (code p s ∷ []))) rise.1 (fresh-push p n s cs rise.0 fresh)
+  found_from p (cs ++ code p s ∷ []) all (k + 1) (signal_number s + 1) ss (omega (arith, length-append cs (code p s ∷ []))) rise.1 (fresh-push p n s cs rise.0 fresh)
       (e ∙ sym (append_assoc cs (code p s ∷ []) (codes_of p ss))),
 )
 

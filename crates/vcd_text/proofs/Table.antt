@@ -9,14 +9,14 @@ use Rattle.xif_base.specs.declared.params.Params.{Params}
 use Rattle.xif_base.specs.Params.{IsInRange, IsPortWidth}
 use Rattle.xif_signals.specs.declared.signal.Signal.{Signal}
 use Rattle.xif_signals.specs.declared.signal.Signal.TheVariants.{Clk, RstN, IssueValid, IssueReady, IssueHartid, IssueId, IssueInstr, IssueAccept, IssueWriteback, IssueRegisterRead, RegisterValid, RegisterReady, RegisterHartid, RegisterId, RegisterRs0, RegisterRs1, RegisterRs2, RegisterRsValid, CommitValid, CommitHartid, CommitId, CommitKill, ResultValid, ResultReady, ResultHartid, ResultId, ResultData, ResultRd, ResultWe}
-use Rattle.xif_signals.specs.Signal.{signals, number_of, code_of, name_of, width_of}
+use Rattle.xif_signals.specs.Signal.{signals, signal_number, code_of, name_of, width_of}
 use Rattle.vcd_text.specs.Words.{is_white, is_end, is_code}
 use Rattle.vcd_text.specs.Written.{wires, wires_of, data_wires_of}
 use Rattle.vcd_text.proofs.Says.{IsWord}
 
 -- ---- codes
 
-pub code_is : (s : Signal) → code_of s ≡ (33 + number_of s) ∷ []
+pub code_is : (s : Signal) → code_of s ≡ (33 + signal_number s) ∷ []
 code_is Clk = refl
 code_is RstN = refl
 code_is IssueValid = refl
@@ -47,8 +47,8 @@ code_is ResultData = refl
 code_is ResultRd = refl
 code_is ResultWe = refl
 
-pub codes_same : (a b : Signal) → bytes_eq (code_of a) (code_of b) ≡ (number_of a == number_of b)
-codes_same a b = ap (λ c. bytes_eq c (code_of b)) (code_is a) ∙ ap (bytes_eq ((33 + number_of a) ∷ [])) (code_is b) ∙ grind (arith, nat_tests)
+pub codes_same : (a b : Signal) → bytes_eq (code_of a) (code_of b) ≡ (signal_number a == signal_number b)
+codes_same a b = ap (λ c. bytes_eq c (code_of b)) (code_is a) ∙ ap (bytes_eq ((33 + signal_number a) ∷ [])) (code_is b) ∙ grind (arith, nat_tests)
 
 -- ---- words of a declaration
 
@@ -181,19 +181,19 @@ width_fits p r ResultWe = pair p.dual_write
 -- the numbers rise from one on
 abbrev pub Rise : ℕ → List Signal → Type 0
 Rise n [] = Unit {0}
-Rise n (s ∷ ss) = (n ≤ number_of s) × Rise (number_of s + 1) ss
+Rise n (s ∷ ss) = (n ≤ signal_number s) × Rise (signal_number s + 1) ss
 
 rise-from : (n m : ℕ) (ss : List Signal) → n ≤ m → Rise m ss → Rise n ss
 rise-from n m [] l h = tt
 rise-from n m (s ∷ ss) l h = (omega (arith, h.0), h.1)
 
-rise-filter_by : (f : Signal → Bool) (n : ℕ) (s : Signal) (ss : List Signal) (x : Bool) → f s ≡ x → n ≤ number_of s → Rise (number_of s + 1) (filter f ss) → Rise n (filter f (s ∷ ss))
+rise-filter_by : (f : Signal → Bool) (n : ℕ) (s : Signal) (ss : List Signal) (x : Bool) → f s ≡ x → n ≤ signal_number s → Rise (signal_number s + 1) (filter f ss) → Rise n (filter f (s ∷ ss))
 rise-filter_by f n s ss true e l h = rw e (l, h)
-rise-filter_by f n s ss false e l h = rw e (rise-from n (number_of s + 1) (filter f ss) (omega arith) h)
+rise-filter_by f n s ss false e l h = rw e (rise-from n (signal_number s + 1) (filter f ss) (omega arith) h)
 
 pub rise-filter : (f : Signal → Bool) (n : ℕ) (ss : List Signal) → Rise n ss → Rise n (filter f ss)
 rise-filter f n [] h = tt
-rise-filter f n (s ∷ ss) h = rise-filter_by f n s ss (f s) refl h.0 (rise-filter f (number_of s + 1) ss h.1)
+rise-filter f n (s ∷ ss) h = rise-filter_by f n s ss (f s) refl h.0 (rise-filter f (signal_number s + 1) ss h.1)
 
 pub signals_rise : Rise 0 signals
 signals_rise = (lit≤ tt, (lit≤ tt, (lit≤ tt, (lit≤ tt, (lit≤ tt, (lit≤ tt, (lit≤ tt, (lit≤ tt, (lit≤ tt, (lit≤ tt, (lit≤ tt, (lit≤ tt, (lit≤ tt, (lit≤ tt, (lit≤ tt, (lit≤ tt, (lit≤ tt, (lit≤ tt, (lit≤ tt, (lit≤ tt, (lit≤ tt, (lit≤ tt, (lit≤ tt, (lit≤ tt, (lit≤ tt, (lit≤ tt, (lit≤ tt, (lit≤ tt, (lit≤ tt, tt)))))))))))))))))))))))))))))

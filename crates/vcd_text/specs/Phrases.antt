@@ -6,7 +6,7 @@ use Rattle.std.specs.Prelude.{◌≡◌, ◌⊎◌, ⊤, ℕ, ◌-◌, ◌==◌,
 use Rattle.std.specs.List.{flat_map, list_all}
 use Rattle.std.specs.Option.{option_map, option_to_list}
 use Rattle.std.specs.Str.{is_utf8}
-use Rattle.xif_base.specs.Checks.{first_fault}
+use Rattle.xif_base.specs.Checks.{first_failing}
 use Rattle.vcd_text.specs.declared.declaration.Variable.{Variable}
 use Rattle.vcd_text.specs.declared.digit.Digit.{Digit}
 use Rattle.vcd_text.specs.declared.fault.VcdCause.{VcdCause}
@@ -281,7 +281,7 @@ pub record IsPhrase (c : Context) (p : PlacedPhrase) : Type 0 where
 -- and it has what it demands
 pub record IsWellFormed (c : Context) (p : PlacedPhrase) : Type 0 where
   pub phrase : IsPhrase c p
-  pub met : first_fault (demands c p.phrase) ≡ Ok tt
+  pub met : first_failing (demands c p.phrase) ≡ Ok tt
 
 abbrev pub AreWellFormed : Context → List PlacedPhrase → Type 0
 AreWellFormed c [] = ⊤
@@ -325,7 +325,7 @@ pub record IsIllFormed (c : Context) (rest : List Token) (f : VcdFault) : Type 0
   pub more : List Token
   pub tokens : rest ≡ next.tokens ++ more
   pub phrase : IsPhrase c next
-  pub cause : first_fault (demands c next.phrase) ≡ Err f.cause
+  pub cause : first_failing (demands c next.phrase) ≡ Err f.cause
   pub at : f.at ≡ fault_place f.cause next.tokens
 
 -- a block without its $end

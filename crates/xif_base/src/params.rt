@@ -49,6 +49,7 @@ pub enum ParamFault {
     HartidWidth,
     /// X_DUALREAD.
     DualRead,
+    /// The profile of the rules.
     Profile,
 }
 
@@ -82,7 +83,7 @@ impl Params {
             Err(ParamFault::HartidWidth)
         } else if self.dual_read > self.num_rs {
             Err(ParamFault::DualRead)
-        } else if self.profile < 1 || self.profile > 2 {
+        } else if !(1..=2).contains(&self.profile) {
             Err(ParamFault::Profile)
         } else {
             Ok(())

@@ -190,6 +190,7 @@ fn fields_that_are_absent_have_their_defaults(rt: HostRuntime) -> Result<(), Fai
         dual_read: 0,
         dual_write: false,
         split: true,
+        profile: 1,
     };
     assert_eq!(rt; job.params, params);
     assert_eq!(rt; (job.base, job.size, job.entry), (0, 65_536, 0));

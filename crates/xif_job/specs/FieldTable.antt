@@ -5,7 +5,7 @@ use Rattle.std.specs.Prelude.{◌+◌, ◌-◌, ◌^◌, ◌==◌, ◌||◌, ℕ
 use Rattle.std.specs.Option.{ok_or}
 use Rattle.std.specs.Str.{bytes_eq}
 use Rattle.toml.specs.Data.{Data, string, integer, Members, get_member}
-use Rattle.xif_base.specs.Checks.{first_fault}
+use Rattle.xif_base.specs.Checks.{first_failing}
 use Rattle.xif_base.specs.Params.{ranges}
 use Rattle.xif_base.specs.declared.params.ParamFault.{ParamFault}
 use Rattle.xif_base.specs.declared.params.Params.{Params}
@@ -13,7 +13,7 @@ use Rattle.coproc_config.specs.Check.{checks}
 use Rattle.coproc_config.specs.Set.{UnitTable}
 use Rattle.coproc_config.specs.declared.check.SetFault.{SetFault}
 use Rattle.coproc_config.specs.declared.operation.Entry.{Entry}
-use Rattle.xif_signals.specs.Signal.{signals, number_of, name_of, width_of}
+use Rattle.xif_signals.specs.Signal.{signals, signal_number, name_of, width_of}
 use Rattle.xif_signals.specs.declared.signal.Signal.{Signal}
 use Rattle.xif_signals.specs.declared.signal.Signal.TheVariants.{Clk}
 use Rattle.xif_sampler.specs.declared.place.Place.{Place}
@@ -49,6 +49,7 @@ params_names =
     ∷ codes "x_dualread"
     ∷ codes "x_dualwrite"
     ∷ codes "x_issue_register_split"
+    ∷ codes "profile"
     ∷ []
 
 -- the first fault of the parameters together
@@ -68,6 +69,7 @@ params_of top = do
   dual_read ← number_in fields.ParamsDualRead (0 to 3) (Default 0) (t at "x_dualread")
   dual_write ← flag_in fields.ParamsDualWrite (Default 0) (t at "x_dualwrite")
   split ← flag_in fields.ParamsIssueRegisterSplit (Default 1) (t at "x_issue_register_split")
+  profile ← number_in fields.ParamsProfile (1 to 2) (Default 1) (t at "profile")
   let p : Params = record {
     num_rs = num_rs;
     id_width = id_width;
@@ -78,7 +80,8 @@ params_of top = do
     dual_read = dual_read;
     dual_write = dual_write;
     split = split;
-  } in checked p (first_fault (ranges p))
+    profile = profile;
+  } in checked p (first_failing (ranges p))
 
 abbrev pub memory_names : List (List ℕ)
 memory_names = codes "base" ∷ codes "size" ∷ []
@@ -174,7 +177,7 @@ bits_in s d = do
 -- a constant that the signal's bits hold; the clock has none, since it has to rise
 unfoldable pub constant_in : Params → Signal → Data → Result Place JobFault
 constant_in p s d = do
-  _ ← unless (not (number_of s == number_of Clk)) (WrongKind (fields.Map s))
+  _ ← unless (not (signal_number s == signal_number Clk)) (WrongKind (fields.Map s))
   value ← integer_in (fields.Map s) (0 to 2 ^ width_of s p - 1) d
   Ok (places.Constant value)
 
@@ -218,7 +221,7 @@ job_of needs_image top = do
   set ← units_of top
   _ ← differ image.source.file
   map ← map_of params top
-  _ ← lawful (first_fault (checks set))
+  _ ← lawful (first_failing (checks set))
   Ok (record {
     params = params;
     image = image.source;

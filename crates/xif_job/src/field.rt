@@ -20,6 +20,7 @@ pub enum Field {
     ParamsDualRead,
     ParamsDualWrite,
     ParamsIssueRegisterSplit,
+    ParamsProfile,
     MemoryBase,
     MemorySize,
     ImageFile,
@@ -118,6 +119,7 @@ impl Field {
             Field::ParamsDualRead => "params.x_dualread",
             Field::ParamsDualWrite => "params.x_dualwrite",
             Field::ParamsIssueRegisterSplit => "params.x_issue_register_split",
+            Field::ParamsProfile => "params.profile",
             Field::MemoryBase => "memory.base",
             Field::MemorySize => "memory.size",
             Field::ImageFile => "image.file",
@@ -195,5 +197,6 @@ pub(crate) fn field_of(fault: ParamFault) -> Field
         ParamFault::NumHarts => Field::ParamsNumHarts,
         ParamFault::HartidWidth => Field::ParamsHartidWidth,
         ParamFault::DualRead => Field::ParamsDualRead,
+        ParamFault::Profile => Field::ParamsProfile,
     }
 }

@@ -1,7 +1,7 @@
 //! The parameters of a job (CV-X-IF 1.0.0, "Parameters").
 ghost use Rattle.std.specs.Prelude.{◌≡◌, IfOk, Ok};
 ghost use Rattle.toml.specs.View.{table_view};
-ghost use Rattle.xif_base.specs.Checks.{first_fault};
+ghost use Rattle.xif_base.specs.Checks.{first_failing};
 ghost use Rattle.xif_base.specs.Params.{ranges, IsInRange};
 ghost use Rattle.xif_job.specs.FieldTable.{params_of, checked};
 ghost use Rattle.xif_job.specs.Outcome.{ReadsAs};
@@ -13,7 +13,7 @@ use toml::Table;
 use xif_base::Params;
 
 /// The names in the table `params`.
-const NAMES: [&str; 9] = [
+const NAMES: [&str; 10] = [
     "x_num_rs",
     "x_id_width",
     "x_rfr_width",
@@ -23,6 +23,7 @@ const NAMES: [&str; 9] = [
     "x_dualread",
     "x_dualwrite",
     "x_issue_register_split",
+    "profile",
 ];
 
 /// The table `params`.
@@ -55,6 +56,9 @@ pub(crate) fn read_params(top: &Table) -> Result<Params, JobFault>
     let dual_write = flag(Field::ParamsDualWrite, Absent::Default(0), found)?;
     let found = find(table, "x_issue_register_split");
     let split = flag(Field::ParamsIssueRegisterSplit, Absent::Default(1), found)?;
+    let range = Range { low: 1, high: 2 };
+    let found = find(table, "profile");
+    let profile = number_u8(Field::ParamsProfile, range, Absent::Default(1), found)?;
     check(Params {
         num_rs,
         id_width,
@@ -65,12 +69,13 @@ pub(crate) fn read_params(top: &Table) -> Result<Params, JobFault>
         dual_read,
         dual_write,
         split,
+        profile,
     })
 }
 
 /// Parameters that are in their ranges together.
 fn check(params: Params) -> Result<Params, JobFault>
-    ensures value { result ≡ checked params (first_fault (ranges params)) }
+    ensures value { result ≡ checked params (first_failing (ranges params)) }
     ensures in_range { IfOk result IsInRange }
 {
     match params.check() {

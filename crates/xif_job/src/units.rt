@@ -2,7 +2,7 @@
 ghost use Rattle.std.specs.Prelude.{◌≡◌, ◌++◌, ◌∷◌, [], IfOk};
 ghost use Rattle.coproc_config.specs.Check.{checks, IsLawful};
 ghost use Rattle.toml.specs.View.{table_view, items_view, view};
-ghost use Rattle.xif_base.specs.Checks.{first_fault};
+ghost use Rattle.xif_base.specs.Checks.{first_failing};
 ghost use Rattle.xif_job.specs.FieldTable.{units_of, unit_in, entry_in, lawful};
 ghost use Rattle.xif_job.specs.Outcome.{added, ReadsAs};
 ghost use Rattle.xif_job.specs.Readers.{each};
@@ -133,7 +133,7 @@ fn add_unit(set: &mut Set, accumulators: u8, entries: &[Entry]) -> Result<(), No
 
 /// Tests that a set is lawful, and returns its first fault where it isn't.
 pub(crate) fn check_set(set: &Set) -> Result<(), JobFault>
-    ensures exact { result ≡ lawful (first_fault (checks set.now)) }
+    ensures exact { result ≡ lawful (first_failing (checks set.now)) }
     ensures lawful { IfOk result (λ _. IsLawful set.now) }
 {
     match set.check() {

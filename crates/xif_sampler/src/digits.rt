@@ -3,7 +3,8 @@ ghost use Rattle.std.specs.Prelude.{◌≡◌, ◌≤◌, ◌-◌, ◌+◌, ◌^
 ghost use Rattle.xif_sampler.specs.Digits.{filler, value_bit_of, unknown_bit_of, quad_from};
 
 use vcd_text::Digit;
-use xif_signals::{Quad, ones_below};
+use xif_base::ones_below;
+use xif_signals::Quad;
 
 /// `width` bits of a value, from its bit `low` on, which counts from the last digit as 0. A value
 /// that is shorter is extended on the left (IEEE 1364-2005, 18.2.2).

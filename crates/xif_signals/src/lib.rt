@@ -23,7 +23,6 @@ mod sample;
 mod signal;
 
 pub use bus::{Bus, CopOut, CpuIn, CpuOut};
-pub use mask::ones_below;
 pub use rule::{Channel, Rule, Unknown};
 pub use sample::{Quad, Sample};
 pub use signal::Signal;

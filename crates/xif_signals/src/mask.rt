@@ -1,18 +1,7 @@
 //! The low bits of numbers of 64 bits.
-ghost use Rattle.std.specs.Prelude.{◌≡◌, ◌≤◌, ◌<◌, ◌-◌, ◌%◌, ◌^◌};
+ghost use Rattle.std.specs.Prelude.{◌≡◌, ◌≤◌, ◌<◌, ◌%◌, ◌^◌};
 
-/// The number whose lowest `width` bits are 1 and whose other bits are 0: the largest of `width`
-/// bits.
-pub fn ones_below(width: u8) -> u64
-    requires { width ≤ 64 }
-    ensures { result ≡ 2 ^ width - 1 }
-{
-    if width == 64 {
-        u64::MAX
-    } else {
-        (1 << width) - 1
-    }
-}
+use xif_base::ones_below;
 
 /// The lowest `width` bits of a number.
 #[tactic(auto, using(crate::proofs::Bits::and_ones, crate::proofs::Bits::low_lt))]

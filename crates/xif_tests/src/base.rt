@@ -145,6 +145,7 @@ const LEAST: Params = Params {
     dual_read: 0,
     dual_write: false,
     split: true,
+    profile: 1,
 };
 
 const MOST: Params = Params {
@@ -157,6 +158,7 @@ const MOST: Params = Params {
     dual_read: 3,
     dual_write: true,
     split: false,
+    profile: 1,
 };
 
 const WIDE: Params = Params {

@@ -40,6 +40,7 @@ fn params(num_rs: u8, dual_read: u8, dual_write: bool) -> Params {
         dual_read,
         dual_write,
         split: true,
+        profile: 1,
     }
 }
 

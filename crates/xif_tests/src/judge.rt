@@ -21,6 +21,7 @@ fn two_harts() -> Params
         dual_read: 0,
         dual_write: false,
         split: true,
+        profile: 1,
     }
 }
 

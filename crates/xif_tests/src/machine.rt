@@ -20,6 +20,7 @@ const PARAMS: Params = Params {
     dual_read: 1,
     dual_write: true,
     split: true,
+    profile: 1,
 };
 
 /// One unit with an accumulator and four entries.

@@ -58,6 +58,7 @@ pub(crate) fn params_of_64_bits() -> Params
         dual_read: 0,
         dual_write: false,
         split: true,
+        profile: 1,
     }
 }
 

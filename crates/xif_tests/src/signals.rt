@@ -21,6 +21,7 @@ fn smallest() -> Params
         dual_read: 0,
         dual_write: false,
         split: false,
+        profile: 1,
     }
 }
 
@@ -39,6 +40,7 @@ fn greatest(dual_read: u8) -> Params
         dual_read,
         dual_write: true,
         split: true,
+        profile: 1,
     }
 }
 

@@ -15,6 +15,7 @@ const SMALLEST: Params = Params {
     dual_read: 0,
     dual_write: false,
     split: true,
+    profile: 1,
 };
 
 const GREATEST: Params = Params {
@@ -27,6 +28,7 @@ const GREATEST: Params = Params {
     dual_read: 3,
     dual_write: true,
     split: true,
+    profile: 1,
 };
 
 const IDLE: Bus = Bus {

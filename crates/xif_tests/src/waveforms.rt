@@ -35,6 +35,7 @@ fn least_params() -> Params
         dual_read: 0,
         dual_write: false,
         split: true,
+        profile: 1,
     }
 }
 

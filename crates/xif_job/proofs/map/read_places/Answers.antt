@@ -1,6 +1,6 @@
 use Rattle.std.proofs.Common.{◌∙◌, sym, ap, arith, length, length-set, get_or}
 use Rattle.toml.specs.Data.{get_member}
-use Rattle.xif_signals.specs.Signal.{number_of}
+use Rattle.xif_signals.specs.Signal.{signal_number}
 use Rattle.xif_signals.specs.declared.signal.Signal.TheVariants.{Clk}
 use Rattle.xif_sampler.proofs.Table.{number_at}
 use Rattle.xif_job.specs.FieldTable.{place_in}
@@ -19,7 +19,7 @@ loop-signal-preserved c =
     let here = ap (place_in c.args.params.now s) (sym (c.find-found.ensures ∙ ap (λ n. get_member n (members c.args.table)) c.name.ensures)) ∙ c.in_ok-read_place.ensures in
     rw c.set.ensures record {
       all = all;
-      count = length-set c.loop-signal.map (number_of s) x ∙ c.loop-signal.invariant.count;
-      so_far = placed c.args.params.now (members c.args.table) ss c.loop-signal.map i (number_of s) Clk x _ (omega arith) (omega arith)
+      count = length-set c.loop-signal.map (signal_number s) x ∙ c.loop-signal.invariant.count;
+      so_far = placed c.args.params.now (members c.args.table) ss c.loop-signal.map i (signal_number s) Clk x _ (omega arith) (omega arith)
           (number_at ss i Clk all count (omega arith)) here c.loop-signal.invariant.so_far;
     }

@@ -1,7 +1,7 @@
 use Rattle.std.proofs.Common.{ℕ, Bool, List, ap, sym, ◌∙◌}
 use Rattle.std.specs.List.{flat_map, enumerate_from}
 use Rattle.std.proofs.lemmas.Result.{err_from_is_err_and}
-use Rattle.xif_base.specs.Checks.{first_fault}
+use Rattle.xif_base.specs.Checks.{first_failing}
 use Rattle.coproc_config.specs.declared.check.SetFault.{SetFault}
 use Rattle.coproc_config.specs.Set.{UnitTable, places_of}
 use Rattle.coproc_config.specs.Check.{unit_checks, entry_checks}
@@ -13,7 +13,7 @@ abbrev checks_in : ℕ × UnitTable → List (Bool × SetFault)
 checks_in unit = flat_map entry_checks (places_of unit)
 
 pub loop-i-init : goal.loop-i-init
-loop-i-init c = ap first_fault (flat_map-flat_map entry_checks places_of (enumerate_from 0 c.args.self.now))
+loop-i-init c = ap first_failing (flat_map-flat_map entry_checks places_of (enumerate_from 0 c.args.self.now))
 
 pub check_entries-requires : goal.check_entries-requires
 check_entries-requires c = entries-within c.loop-i.i c.get.result.now (each unit_checks c.args.self.now c.loop-i.i c.get.result.now c.requires.sizes c.get.ensures)

@@ -2,7 +2,7 @@ use Rattle.std.proofs.Common.{ℕ, Bool, List, Result, ap, sym, ◌∙◌}
 use Rattle.std.specs.List.{enumerate_from}
 use Rattle.std.proofs.lemmas.Result.{err_from_is_err_and}
 use Rattle.std.proofs.lemmas.List.Folds.{flat_map-map}
-use Rattle.xif_base.specs.Checks.{first_fault}
+use Rattle.xif_base.specs.Checks.{first_failing}
 use Rattle.coproc_config.specs.declared.check.SetFault.{SetFault}
 use Rattle.coproc_config.specs.declared.operation.Entry.{Entry}
 use Rattle.coproc_config.specs.Set.{UnitTable, place_of}
@@ -16,10 +16,10 @@ checks_of n unit entry = entry_checks (place_of (n, unit) entry)
 -- the tests of an entry, in a unit with so many accumulators
 abbrev tests : ℕ → ℕ → Entry → ℕ → Result Unit SetFault
 tests unit entry row accumulators =
-    first_fault (entry_checks (record { unit = unit; entry = entry; accumulators = accumulators; row = row }))
+    first_failing (entry_checks (record { unit = unit; entry = entry; accumulators = accumulators; row = row }))
 
 pub loop-i-init : goal.loop-i-init
-loop-i-init c = ap first_fault (flat_map-map entry_checks (place_of (c.args.unit, c.args.self.now)) (enumerate_from 0 c.args.self.now.entries))
+loop-i-init c = ap first_failing (flat_map-map entry_checks (place_of (c.args.unit, c.args.self.now)) (enumerate_from 0 c.args.self.now.entries))
 
 pub returns-in_err-check : goal.returns-in_err-check
 returns-in_err-check c =
