@@ -1,6 +1,7 @@
--- The fields of a job file: a line for each, with its kind, its field, its range, what it is where it is absent, and where its
--- value stands. The order of the lines is the order in which faults are reported. Where a line depends on earlier fields, it
--- follows them. The signals have one line for all, over their own table.
+-- The fields of a job file: a line for each, with its kind, its field, its range, what it is where
+-- it is absent, and where its value stands. The order of the lines is the order in which faults are
+-- reported. Where a line depends on earlier fields, it follows them. The signals have one line for
+-- all, over their own table.
 use Rattle.std.specs.Prelude.{◌+◌, ◌-◌, ◌^◌, ◌==◌, ◌||◌, ℕ, Bool, not, if◌then◌else◌, List, [], ◌∷◌, map, Option, Some, None, is_some, Result, Ok, Err, nat_le, min, codes}
 use Rattle.std.specs.Option.{ok_or}
 use Rattle.std.specs.Str.{bytes_eq}
@@ -99,7 +100,8 @@ image_names = codes "file" ∷ codes "kind" ∷ codes "load" ∷ codes "entry" �
 
 -- the name of the image's file, which is empty where none is needed and none is given
 abbrev pub file_in : Bool → Option Data → Result (List ℕ) JobFault
-file_in needs_image found = text_in fields.ImageFile (if needs_image then Missing else Default []) found
+file_in needs_image found =
+    text_in fields.ImageFile (if needs_image then Missing else Default []) found
 
 unfoldable pub image_of : Bool → ℕ → Members → Result Image JobFault
 image_of needs_image base top = do
@@ -125,7 +127,8 @@ predictor_of t = do
   Ok (kind_of name bits targets)
 
 abbrev pub core_names : List (List ℕ)
-core_names = codes "window" ∷ codes "budget" ∷ codes "predictor" ∷ codes "bits" ∷ codes "targets" ∷ []
+core_names =
+    codes "window" ∷ codes "budget" ∷ codes "predictor" ∷ codes "bits" ∷ codes "targets" ∷ []
 
 unfoldable pub core_of : ℕ → Members → Result Core JobFault
 core_of id_width top = do
@@ -136,7 +139,8 @@ core_of id_width top = do
   Ok (record { window = window; budget = budget; predictor = predictor })
 
 abbrev pub entry_names : List (List ℕ)
-entry_names = codes "mask" ∷ codes "match" ∷ codes "op" ∷ codes "acc" ∷ codes "low" ∷ codes "len" ∷ []
+entry_names =
+    codes "mask" ∷ codes "match" ∷ codes "op" ∷ codes "acc" ∷ codes "low" ∷ codes "len" ∷ []
 
 -- an item of `unit.entry`
 unfoldable pub entry_in : Data → Result Entry JobFault
@@ -164,8 +168,8 @@ unit_in d = do
 unfoldable pub units_of : Members → Result (List UnitTable) JobFault
 units_of top = array_in fields.Unit (top at "unit") >>= each unit_in
 
--- Bits of a variable, by a table. The name may be empty, and `high` may be below `low`: whether a waveform has such bits is
--- reported only where one is read.
+-- Bits of a variable, by a table. The name may be empty, and `high` may be below `low`: whether a
+-- waveform has such bits is reported only where one is read.
 unfoldable pub bits_in : Signal → Data → Result Place JobFault
 bits_in s d = do
   t ← table_in (fields.Map s) (codes "var" ∷ codes "low" ∷ codes "high" ∷ []) (Some d)
@@ -181,7 +185,8 @@ constant_in p s d = do
   value ← integer_in (fields.Map s) (0 to 2 ^ width_of s p - 1) d
   Ok (places.Constant value)
 
--- the place of a signal, by what stands at its name; what is neither text nor integer has to be a table
+-- the place of a signal, by what stands at its name; what is neither text nor integer has to be a
+-- table
 abbrev pub place_in : Params → Signal → Option Data → Result Place JobFault
 place_in p s None = Ok places.Default
 place_in p s (Some (string name)) = Ok (places.Variable name 0 None)
@@ -242,7 +247,8 @@ abbrev pub is_unbuilt : Members → Bool
 is_unbuilt top = is_some (top at "script") || is_some (top at "trace")
 
 abbrev pub table_names : List (List ℕ)
-table_names = codes "params" ∷ codes "memory" ∷ codes "image" ∷ codes "core" ∷ codes "unit" ∷ codes "map" ∷ []
+table_names =
+    codes "params" ∷ codes "memory" ∷ codes "image" ∷ codes "core" ∷ codes "unit" ∷ codes "map" ∷ []
 
 -- the tables at the top level
 abbrev pub all_of : Bool → Members → Result Job JobFault

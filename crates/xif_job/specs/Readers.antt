@@ -1,5 +1,5 @@
--- The kinds of fields. Each says what is read where a value, or nothing, stands at a field's name, and which fault is reported
--- where it can't be read.
+-- The kinds of fields. Each says what is read where a value, or nothing, stands at a field's name,
+-- and which fault is reported where it can't be read.
 use Rattle.std.specs.Prelude.{◌≤◌, ◌&&◌, ◌||◌, ◌%◌, ◌==◌, ℕ, suc, pos, negsuc, Bool, true, if◌then◌else◌, List, [], ◌∷◌, length, Option, Some, None, is_some, Result, Ok, Err, nat_lt, codes, ⊤}
 use Rattle.std.specs.Option.{ok_or}
 use Rattle.std.specs.Str.{bytes_eq}
@@ -57,7 +57,8 @@ number_in field range absent (Some d) = integer_in field range d
 
 -- such an integer that is a multiple of 4
 abbrev pub word_in : Field → Range → Absent ℕ → Option Data → Result ℕ JobFault
-word_in field range absent found = number_in field range absent found >>= λ n. demand field (n % 4 == 0) >>= λ _. Ok n
+word_in field range absent found =
+    number_in field range absent found >>= λ n. demand field (n % 4 == 0) >>= λ _. Ok n
 
 -- such an integer, or none
 abbrev pub optional_in : Field → Range → Option Data → Result (Option ℕ) JobFault
@@ -76,7 +77,8 @@ flag_in field absent found = number_in field (0 to 1) absent found >>= λ n. Ok 
 -- a text that isn't empty
 abbrev pub text_in : Field → Absent (List ℕ) → Option Data → Result (List ℕ) JobFault
 text_in field absent None = where_absent field absent
-text_in field absent (Some d) = of_kind field (as_str d) >>= λ text. demand field (nat_lt 0 (length text)) >>= λ _. Ok text
+text_in field absent (Some d) =
+    of_kind field (as_str d) >>= λ text. demand field (nat_lt 0 (length text)) >>= λ _. Ok text
 
 -- a text, which may be empty, and must be there
 abbrev pub any_text_in : Field → Option Data → Result (List ℕ) JobFault
@@ -90,7 +92,8 @@ meaning (word ∷ words) text = if bytes_eq word.0 text then Some word.1 else me
 -- a text that is one of some words, each with its meaning
 abbrev pub choice_in : {A : Type 0} → Field → List (List ℕ × A) → Absent A → Option Data → Result A JobFault
 choice_in field words absent None = where_absent field absent
-choice_in field words absent (Some d) = of_kind field (as_str d) >>= λ text. ok_or (meaning words text) (OutOfRange field)
+choice_in field words absent (Some d) =
+    of_kind field (as_str d) >>= λ text. ok_or (meaning words text) (OutOfRange field)
 
 -- the items of an array, each read in its turn
 abbrev pub each : {A : Type 0} → (Data → Result A JobFault) → Items → Result (List A) JobFault
@@ -105,7 +108,8 @@ abbrev pub count : Items → ℕ
 count no_items = 0
 count (item d ds) = suc (count ds)
 
--- So many integers, each in a range. The kinds of all are tested first, then how many there are, then the ranges.
+-- So many integers, each in a range. The kinds of all are tested first, then how many there are,
+-- then the ranges.
 abbrev pub integers_in : Field → Range → Range → Items → Result (List ℕ) JobFault
 integers_in field counts range ds =
     unless (are_integers ds) (WrongKind field) >>= λ _.
@@ -115,7 +119,8 @@ integers_in field counts range ds =
 -- an array of so many such integers
 abbrev pub numbers_in : Field → Range → Range → Absent (List ℕ) → Option Data → Result (List ℕ) JobFault
 numbers_in field counts range absent None = where_absent field absent
-numbers_in field counts range absent (Some d) = of_kind field (as_array d) >>= integers_in field counts range
+numbers_in field counts range absent (Some d) =
+    of_kind field (as_array d) >>= integers_in field counts range
 
 -- the items of an array: none where it is absent
 abbrev pub array_in : Field → Option Data → Result Items JobFault
@@ -127,7 +132,9 @@ abbrev pub are_known : List (List ℕ) → Members → Bool
 are_known names no_members = true
 are_known names (member k d ms) = list_any (λ n. bytes_eq n k) names && are_known names ms
 
--- A table with no other names than these. Another kind of value is reported at the field. An absent table is empty.
+-- A table with no other names than these. Another kind of value is reported at the field. An absent
+-- table is empty.
 abbrev pub table_in : Field → List (List ℕ) → Option Data → Result Members JobFault
 table_in field names None = Ok no_members
-table_in field names (Some d) = of_kind field (as_table d) >>= λ ms. unless (are_known names ms) UnknownField >>= λ _. Ok ms
+table_in field names (Some d) =
+    of_kind field (as_table d) >>= λ ms. unless (are_known names ms) UnknownField >>= λ _. Ok ms

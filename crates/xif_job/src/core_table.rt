@@ -14,7 +14,8 @@ use toml::Table;
 /// The names in the table `core`.
 const NAMES: [&str; 5] = ["window", "budget", "predictor", "bits", "targets"];
 
-/// The core: its window in instructions (1 to 32), its budget in cycles (1 to 200,000) and its predictor.
+/// The core: its window in instructions (1 to 32), its budget in cycles (1 to 200,000) and its
+/// predictor.
 #[derive(Debug, Drop)]
 pub(crate) struct Core {
     pub window: u8,

@@ -7,8 +7,8 @@ use crate::JobFault;
 use std::alloc::Global;
 use toml::Table;
 
-/// Parses the bytes of a file. They are not TOML where they are no text in UTF-8, or where an integer
-/// has more than 64 bits.
+/// Parses the bytes of a file. They are not TOML where they are no text in UTF-8, or where an
+/// integer has more than 64 bits.
 pub(crate) fn document(alloc: Global, bytes: &[u8]) -> Result<Table, JobFault>
     ensures ok { IfOk result (λ t. document_of bytes.now ≡ Some (table_view t)) }
     ensures err { IfErr result (λ e.

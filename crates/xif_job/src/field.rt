@@ -54,11 +54,12 @@ pub enum JobFault {
     NotToml,
     /// A field that must be there is absent.
     MissingField(Field),
-    /// A field is of another kind of value. Where a table should stand and another kind of value does, it is
-    /// reported at the table's first field, and for an item of an array at the array.
+    /// A field is of another kind of value. Where a table should stand and another kind of value
+    /// does, it is reported at the table's first field, and for an item of an array at the array.
     WrongKind(Field),
-    /// A field has a value of its kind that it can't have, alone or together with earlier fields. A field
-    /// that is absent may be reported so too, where its default can't stand beside a value that is given.
+    /// A field has a value of its kind that it can't have, alone or together with other fields. A
+    /// field that is absent may be reported so too, where its default can't stand beside a value
+    /// that is given.
     OutOfRange(Field),
     /// A name at the top level or in a table is none that may stand there.
     UnknownField,
@@ -104,8 +105,8 @@ impl From<NoMemory> for JobFault {
 }
 
 impl Field {
-    /// Its name behind those of its tables, with dots, as `memory.base`. A signal's is that of its place, as
-    /// `map.clk`.
+    /// Its name behind those of its tables, with dots, as `memory.base`. A signal's is that of its
+    /// place, as `map.clk`.
     pub fn name(&self) -> &'static str
         ensures { result.now ≡ dotted self.now }
     {
@@ -147,8 +148,8 @@ impl Field {
     }
 }
 
-/// The name of a signal behind that of its table. A text that lives for good is not put together from
-/// two, so each stands here whole.
+/// The name of a signal behind that of its table. A text that lives for good is not put together
+/// from two, so each stands here whole.
 fn map_name(signal: Signal) -> &'static str
     ensures { result.now ≡ codes "map." ++ name_of signal }
 {

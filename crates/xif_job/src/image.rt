@@ -26,13 +26,13 @@ const WORDS: [(&str, ImageKind); 2] = [("text", ImageKind::Text), ("raw", ImageK
 /// Where the image of the memory comes from.
 #[derive(Debug, Drop)]
 pub struct ImageSource {
-    /// `image.file`, the name of its file, which the program opens where it runs. It is empty only where
-    /// the job names none and needs none.
+    /// `image.file`, the name of its file, which the program opens where it runs. It is empty only
+    /// where the job names none and needs none.
     pub file: Name,
     /// `image.kind`, what the file is. By default it is a text.
     pub kind: ImageKind,
-    /// `image.load`, the address of the first byte of a raw image, any of 32 bits. By default it is the
-    /// memory's first address. A text has addresses of its own.
+    /// `image.load`, the address of the first byte of a raw image, any of 32 bits. By default it is
+    /// the memory's first address. A text has addresses of its own.
     pub load: u32,
 }
 

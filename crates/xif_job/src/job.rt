@@ -25,37 +25,38 @@ use xif_sampler::SignalMap;
 /// What a job file says. Behind each field stands what the file calls it, and its default.
 #[derive(Debug, Drop)]
 pub struct Job {
-    /// The table `params`: the parameters of the interface (CV-X-IF 1.0.0, "Parameters"), in their ranges.
-    /// By default X_NUM_RS is 2, X_ID_WIDTH 3, X_RFR_WIDTH and X_RFW_WIDTH 32 bits, X_NUM_HARTS and
-    /// X_HARTID_WIDTH 1, X_DUALREAD and X_DUALWRITE 0, X_ISSUE_REGISTER_SPLIT 1.
+    /// The table `params`: the parameters of the interface (CV-X-IF 1.0.0, "Parameters"), in their
+    /// ranges. By default X_NUM_RS is 2, X_ID_WIDTH 3, X_RFR_WIDTH and X_RFW_WIDTH 32 bits,
+    /// X_NUM_HARTS and X_HARTID_WIDTH 1, X_DUALREAD and X_DUALWRITE 0, X_ISSUE_REGISTER_SPLIT 1.
     pub params: Params,
     /// The table `image`: the file of the memory's contents.
     pub image: ImageSource,
     /// `memory.base`, the memory's first address, a multiple of 4. By default it is 0.
     pub base: u32,
-    /// `memory.size`, the memory's size in bytes, a multiple of 4 from 4 to 1,048,576. It ends at or before
-    /// 2^32. By default it is 65,536.
+    /// `memory.size`, the memory's size in bytes, a multiple of 4 from 4 to 1,048,576. It ends at
+    /// or before 2^32. By default it is 65,536.
     pub size: u32,
-    /// `image.entry`, the address of the first instruction, a multiple of 4, which may be outside of the
-    /// memory. By default it is `base`.
+    /// `image.entry`, the address of the first instruction, a multiple of 4, which may be outside
+    /// of the memory. By default it is `base`.
     pub entry: u32,
-    /// `core.window`, the number of instructions that the core may have in flight, 1 to 32 and at most
-    /// 2^X_ID_WIDTH. By default it is 8.
+    /// `core.window`, the number of instructions that the core may have in flight, 1 to 32 and at
+    /// most 2^X_ID_WIDTH. By default it is 8.
     pub window: u8,
-    /// `core.budget`, 1 to 200,000: where a run stops at the latest, in cycles for a simulation and in
-    /// retired instructions for `step`. By default it is 10,000.
+    /// `core.budget`, 1 to 200,000: where a run stops at the latest, in cycles for a simulation and
+    /// in retired instructions for `step`. By default it is 10,000.
     pub budget: u32,
-    /// `core.predictor`, with `core.bits` (8 by default) and `core.targets` (the address 0 by default). By
-    /// default no branch is predicted to be taken.
+    /// `core.predictor`, with `core.bits` (8 by default) and `core.targets` (the address 0 by
+    /// default). By default no branch is predicted to be taken.
     pub predictor: Kind,
-    /// The arrays `unit` and `unit.entry`: the coprocessor's units, a lawful set. By default there are none.
+    /// The arrays `unit` and `unit.entry`: the coprocessor's units, a lawful set. By default there
+    /// are none.
     pub set: Set,
     /// The name of the file of the waveform that a run writes, `trace.vcd`.
     pub trace: Name,
     /// The name of the file of the log that a run writes, `trace.log`.
     pub log: Name,
-    /// The table `map`: where the signals are found in a waveform. By default each is where the waveforms
-    /// of this project have it.
+    /// The table `map`: where the signals are found in a waveform. By default each is where the
+    /// waveforms of this project have it.
     pub map: SignalMap,
 }
 

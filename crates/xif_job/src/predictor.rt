@@ -17,11 +17,11 @@ pub enum Kind {
     Never,
     /// JAL and branches to lower addresses are taken.
     Backward,
-    /// There are 2^`bits` counters of two bits (`bits` is 1 to 12). JAL is taken, and a branch where its
-    /// counter is 2 or 3.
+    /// There are 2^`bits` counters of two bits (`bits` is 1 to 12). JAL is taken, and a branch
+    /// where its counter is 2 or 3.
     Bimodal { bits: u8 },
-    /// The listed addresses in turn, whatever the instruction is: the next one once a control transfer has
-    /// retired. There are 1 to 64 of them.
+    /// The listed addresses in turn, whatever the instruction is: the next one once a control
+    /// transfer has retired. There are 1 to 64 of them.
     Listed { targets: Addresses },
 }
 

@@ -289,7 +289,8 @@ fn integers(
     values: &[Value],
 ) -> Result<Vec<u32>, JobFault>
     requires { range.high < 2 ^ 32 }
-    ensures { ReadsAs (λ v. v.items) result (integers_in field counts range (items_view values.now)) }
+    ensures { ReadsAs (λ v. v.items) result
+        (integers_in field counts range (items_view values.now)) }
 {
     if !are_integers(values) {
         return Err(JobFault::WrongKind(field));
@@ -323,7 +324,8 @@ fn each_integer(
     values: &[Value],
 ) -> Result<Vec<u32>, JobFault>
     requires { range.high < 2 ^ 32 }
-    ensures { ReadsAs (λ v. v.items) result (each (integer_in field range) (items_view values.now)) }
+    ensures { ReadsAs (λ v. v.items) result
+        (each (integer_in field range) (items_view values.now)) }
 {
     let mut numbers = Vec::new(alloc);
     for value in values {
@@ -374,7 +376,8 @@ pub(crate) fn has_only(table: &Table, names: &[&str]) -> bool
 }
 
 fn has_keys_among(table: &Table, names: &[&str]) -> bool
-    ensures { result ≡ list_all (λ k. list_any (λ n. bytes_eq n.now (string_bytes k)) names.now) (keys table.now) }
+    ensures { result ≡
+        list_all (λ k. list_any (λ n. bytes_eq n.now (string_bytes k)) names.now) (keys table.now) }
 {
     table.keys().all(|key| is_among(key.as_str(), names))
 }
