@@ -1,3 +1,4 @@
 pub mod Options
 pub mod RuleTests
 pub mod Places
+pub mod Whole

@@ -1,10 +1,10 @@
--- All uses of a session, the newest first, older uses of a key among them. `facts_law` says that the latest uses that
--- `Facts` keeps are those of this list, and `order_law` that no rule asks for more.
-use Rattle.std.specs.Prelude.{◌≡◌, ◌≤◌, ℕ, ◌==◌, ◌&&◌, not, Bool, true, false, if◌then◌else◌, Option, Some, None, IsTrue, List, [], ◌∷◌, map, length}
+-- All uses of a session, the newest first, older uses of a key among them: a second view, over the whole list.
+-- `facts_law` says that the latest uses that `Facts` keeps are those of this list, and that I2 asks for no more.
+use Rattle.std.specs.Prelude.{ℕ, ◌==◌, ◌&&◌, not, Bool, true, false, if◌then◌else◌, Option, Some, None, List, [], ◌∷◌, map, length}
 use Rattle.xif_base.specs.declared.params.Key.{Key}
 use Rattle.xif_signals.specs.declared.bus.Bus.{Bus}
 use Rattle.xif_session.specs.declared.fact.Fact.{Fact}
-use Rattle.xif_session.specs.Facts.{same_key, issue_key, register_key, commit_key, result_key, is_issued, is_given, is_taken, issue_waits, has_killed, is_in_flight, is_pending, idle_bus, new_fact, with_response, with_operands, with_decision, with_end, response_on, undecided_start}
+use Rattle.xif_session.specs.Facts.{same_key, issue_key, register_key, commit_key, result_key, is_issued, is_given, is_taken, issue_waits, has_killed, is_in_flight, idle_bus, new_fact, with_response, with_operands, with_decision, with_end, response_on, undecided_start}
 
 -- a use, and what is said of it
 pub record Use : Type 0 where
@@ -72,19 +72,8 @@ abbrev pub uses_of : List Bus → List Use
 uses_of [] = []
 uses_of (b ∷ session) = uses_after (length session) (last_bus session) b (uses_of session)
 
--- the uses of a session, with the one that a bus starts
-abbrev pub uses_with : List Bus → Bus → List Use
-uses_with session b = with_start (length session) (last_bus session) b (uses_of session)
-
 -- no use of a key is in flight, an older one neither
 abbrev pub none_in_flight : (profile : ℕ) → List Use → Key → Bool
 none_in_flight profile [] key = true
 none_in_flight profile (use' ∷ uses) key =
     not (same_key use'.key key && is_in_flight profile (Some use'.fact)) && none_in_flight profile uses key
-
--- no use of a hart that started before a start was answered and is undecided, an older use of a key neither
-abbrev pub NoneOlder : List Use → (hart start : ℕ) → Type 0
-NoneOlder [] hart start = Unit {0}
-NoneOlder (use' ∷ uses) hart start =
-    (use'.key.hart ≡ hart → IsTrue (is_pending (Some use'.fact)) → start ≤ use'.fact.start)
-    × NoneOlder uses hart start

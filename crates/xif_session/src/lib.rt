@@ -5,14 +5,17 @@
 //! bus first. `specs/Facts.antt` says what a session tells of each key: its latest use, with its
 //! response, its operands, its decision and its end. `specs/Rules.antt` has the rules, each a
 //! predicate on what came before and on the bus of a cycle, and `specs/Legal.antt` which rule holds
-//! where, who owes it, and which sessions are legal. `specs/Uses.antt` says the same over the whole
-//! list of uses, of which `facts_law` and `order_law` show that the latest uses are enough.
-//! `specs/Tests.antt` has the rules as tests, which the code of the judge cites; `rule_law` says that
-//! a test passes if and only if its rule holds.
+//! where, who owes it, and which sessions are legal. `specs/Uses.antt` has the list of all uses of a
+//! session, of which `facts_law` shows that the latest use of each key is enough for I2.
+//! `specs/Tests.antt` has the rules as tests, and the first fault of a cycle, which the code of a
+//! judge cites: `rule_law` says that a test passes if and only if its rule holds, and `fault_law`
+//! that the fault is that of the first rule that fails.
 #![tactic(auto)]
 
 mod fact;
 mod fault;
+mod laws;
 
 pub use fact::{Decision, Fact, Response};
 pub use fault::Fault;
+pub use laws::{fault_law, facts_law, rule_law};

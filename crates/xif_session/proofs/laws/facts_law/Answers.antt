@@ -1,0 +1,8 @@
+use Rattle.xif_session.proofs.Whole.{whole, one_use}
+use Rattle.xif_session.proofs.laws.facts_law.Goals as goal
+
+pub returns-clause-latest : goal.returns-clause-latest
+returns-clause-latest c = λ session key. whole session key
+
+pub returns-clause-in_flight : goal.returns-clause-in_flight
+returns-clause-in_flight c = λ params session key holds. one_use params session holds key
