@@ -1,4 +1,4 @@
-// Texts that are read in pieces.
+//! Texts that are read in pieces.
 ghost use Rattle.std.specs.Prelude.{◌<◌, ◌≤◌, ◌^◌, length};
 
 use std::alloc::Global;
