@@ -1,4 +1,4 @@
--- Every reading is well formed.
+-- Every reading is consistent.
 use Rattle.std.proofs.Common.{◌≡◌, ◌≤◌, ◌-◌, ℕ, false, nat_lt, List, [], ◌∷◌, ◌++◌, length, get_or, refl, sym, ap, ◌∙◌, subst, arith, Option, None, Some, Result, Ok, Err, le_trans, le_refl}
 use Rattle.std.specs.Prelude.{All}
 use Rattle.std.specs.Option.{option_to_list}
@@ -16,7 +16,7 @@ use Rattle.vcd_text.specs.declared.state.State.{State}
 use Rattle.vcd_text.specs.Tokens.{Token, complete, ended}
 use Rattle.vcd_text.specs.Grammar.{Step, with_part, step}
 use Rattle.vcd_text.specs.Reading.{Read, Reading, moved, go, go_from, from, start, read_so_far, read_whole, reading_of, reading_by, ends, fault_at_end}
-use Rattle.vcd_text.specs.Sizes.{times_of, IsWellFormed}
+use Rattle.vcd_text.specs.Sizes.{times_of, IsConsistent}
 use Rattle.vcd_text.specs.Sound.{IsSoundRead}
 use Rattle.vcd_text.proofs.Sound.{GoesOn, Ascends, step-goes}
 use Rattle.vcd_text.proofs.SoundReading.{onward-fold, from-start-sound, sound-so_far}
@@ -80,17 +80,17 @@ start-times = record { ascending = λ k d e lt. not_below d d (le_refl d); upto 
 pub ascending : (text : List ℕ) → IsSortedBy nat_lt (times_of (read_so_far text).items)
 ascending text = (fold-times (from start) (complete [] 0 text) from-start-sound start-times).ascending
 
-well-formed_by : (text : List ℕ) (r : Reading) (state : Result State VcdFault) → (read_whole text).state ≡ state → ends (read_whole text).items state (length text) ≡ Ok r → IsWellFormed r
+well-formed_by : (text : List ℕ) (r : Reading) (state : Result State VcdFault) → (read_whole text).state ≡ state → ends (read_whole text).items state (length text) ≡ Ok r → IsConsistent r
 well-formed_by text r (Err f) e h = cc
 well-formed_by text r (Ok s) e h = by (fault_at_end (length text) s) refl h
   where
-    by : (o : Option VcdFault) → fault_at_end (length text) s ≡ o → reading_by s.variables (read_whole text).items o ≡ Ok r → IsWellFormed r
+    by : (o : Option VcdFault) → fault_at_end (length text) s ≡ o → reading_by s.variables (read_whole text).items o ≡ Ok r → IsConsistent r
     by (Some f) g k = cc
     by None g k =
         let sound = sound-so_far (ended text) in
         let fits = sound.some s.variables ((sound.state s e).1 ∙ declared-at_end s (length text) (sym g)) in
         let same : record { variables = s.variables; items = (read_whole text).items } ≡ r = cc in
-        subst IsWellFormed same (record { consistent = fits.0; fits = fits.1; ascending = ascending (ended text) })
+        subst IsConsistent same (record { consistent = fits.0; fits = fits.1; ascending = ascending (ended text) })
 
-pub well-formed : (text : List ℕ) (r : Reading) → reading_of text ≡ Ok r → IsWellFormed r
+pub well-formed : (text : List ℕ) (r : Reading) → reading_of text ≡ Ok r → IsConsistent r
 well-formed text r h = well-formed_by text r (read_whole text).state refl h

@@ -28,7 +28,7 @@ times_of (Time t ∷ items) = t ∷ times_of items
 times_of (Change code digits ∷ items) = times_of items
 
 -- what every reading is
-pub record IsWellFormed (r : Reading) : Type 0 where
+pub record IsConsistent (r : Reading) : Type 0 where
   pub consistent : AreConsistent r.variables
   pub fits : All (FitsDeclared r.variables) r.items
   -- times don't fall

@@ -3,7 +3,7 @@ ghost use Rattle.std.specs.Prelude.{◌≡◌, ◌↔◌, ◌++◌, ℕ, List, O
 ghost use Rattle.vcd_text.specs.declared.fault.VcdFault.{VcdFault};
 ghost use Rattle.vcd_text.specs.Phrases.{PlacedPhrase, IsRowOf, FailsBehind};
 ghost use Rattle.vcd_text.specs.Reading.{Reading, read_so_far, reading_of};
-ghost use Rattle.vcd_text.specs.Sizes.{IsWellFormed};
+ghost use Rattle.vcd_text.specs.Sizes.{IsConsistent};
 
 /// Texts are read by the grammar of IEEE 1364-2005, clause 18. A text has a reading if and only if
 /// its tokens are a row of well-formed phrases, `$enddefinitions` among them, that say it; and it
@@ -25,5 +25,5 @@ pub fn fault_law()
 /// In a reading the variables of one code are of one size, each change fits its code, and times
 /// don't fall.
 pub fn reading_law()
-    ensures { (text : List ℕ) (r : Reading) → reading_of text ≡ Ok r → IsWellFormed r }
+    ensures { (text : List ℕ) (r : Reading) → reading_of text ≡ Ok r → IsConsistent r }
 {}

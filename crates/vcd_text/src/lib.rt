@@ -6,7 +6,7 @@
 //! The layers above may use `Reader`. What it returns is what the text says, however it is cut, and
 //! its fault is the text's. They may cite `grammar_law` (what a text says is what its phrases say,
 //! and its fault is that of the first phrase that is not well formed), `fault_law` (the fault of a
-//! prefix is the text's) and `reading_law` (every reading is well formed). They may use `Writer`,
+//! prefix is the text's) and `reading_law` (every reading is consistent). They may use `Writer`,
 //! whose pieces joined are the text of the buses, and cite `written_texts_read_back` (this text has
 //! a reading, and which).
 //!

@@ -1,7 +1,7 @@
 //! The parameters of the interface, and the key of an instruction.
 ghost use Rattle.std.specs.Prelude.{◌≡◌, ◌↔◌, IsOk};
 ghost use Rattle.xif_base.specs.Checks.{first_failing};
-ghost use Rattle.xif_base.specs.Params.{IsInRange, ranges, is_port_width, has_hartids};
+ghost use Rattle.xif_base.specs.Params.{IsInRange, ranges, within, is_port_width, has_hartids};
 
 /// The parameters of the interface (CV-X-IF 1.0.0, section "Parameters"), with the ranges of this
 /// profile, which `check` tests.
@@ -69,26 +69,32 @@ impl Params {
         ensures in_range { IsOk result ↔ IsInRange self.now }
         ensures first { result ≡ first_failing (ranges self.now) }
     {
-        if !(2..=3).contains(&self.num_rs) {
+        if !is_within(2, 3, self.num_rs) {
             Err(ParamFault::NumRs)
-        } else if !(3..=12).contains(&self.id_width) {
+        } else if !is_within(3, 12, self.id_width) {
             Err(ParamFault::IdWidth)
         } else if !is_port_width(self.dual_read > 0, self.rfr_width) {
             Err(ParamFault::RfrWidth)
         } else if !is_port_width(self.dual_write, self.rfw_width) {
             Err(ParamFault::RfwWidth)
-        } else if !(1..=4).contains(&self.num_harts) {
+        } else if !is_within(1, 4, self.num_harts) {
             Err(ParamFault::NumHarts)
         } else if !has_hartids(self.hartid_width, self.num_harts) {
             Err(ParamFault::HartidWidth)
         } else if self.dual_read > self.num_rs {
             Err(ParamFault::DualRead)
-        } else if !(1..=2).contains(&self.profile) {
+        } else if !is_within(1, 2, self.profile) {
             Err(ParamFault::Profile)
         } else {
             Ok(())
         }
     }
+}
+
+fn is_within(low: u8, high: u8, value: u8) -> bool
+    ensures { result ≡ within low high value }
+{
+    (low..=high).contains(&value)
 }
 
 /// A port has 64 bits, or 32 if it carries no pairs.
@@ -102,5 +108,5 @@ fn is_port_width(pairs: bool, width: u8) -> bool
 fn has_hartids(width: u8, harts: u8) -> bool
     ensures { result ≡ has_hartids width harts }
 {
-    (1..=8).contains(&width) && u32::from(harts) <= 1 << width
+    is_within(1, 8, width) && u32::from(harts) <= 1 << width
 }

@@ -72,7 +72,7 @@ pub fn read_all<S: Shelf>(
 {
     let mut bytes = Vec::new(alloc);
     let mut room = new_room(alloc)?;
-    loop {
+    'pieces: loop {
         let at = bytes.len() as u64;
         // One byte past the limit shows that the file is longer.
         let most = (limit - at).min(PIECE as u64 - 1) as usize + 1;

@@ -1,13 +1,17 @@
-// Programs of a few words, with values worked out from the manual and by an independent model.
+//! Programs of a few words, with values worked out from the manual and by an independent model.
 ghost use Rattle.std.specs.Prelude.{IfOk};
 ghost use Rattle.coproc_config.specs.State.{IsStateOf};
 
 use coproc_config::{Entry, Op, Set, UnitState};
-use inorder_machine::{Advanced, Machine, Retire, Stepped, StopCause, Store, Write};
+use inorder_machine::{
+    Advanced, Half, Machine, Retire, Stepped, StopCause, Store, Write, execute, half_register,
+    is_read, lane_values, unit_write,
+};
+use rv32_table::decode;
 use std::alloc::Global;
 use std::process::Abort;
 use std::test::Fail;
-use xif_base::{NoMemory, Params};
+use xif_base::{NoMemory, Params, ReadFlags, WriteFlags};
 use xif_image::{Image, Memory};
 
 const PARAMS: Params = Params {
@@ -149,4 +153,54 @@ fn reads_and_writes_pairs(rt: HostRuntime) -> Result<(), Fail> {
         assert_eq!(rt; machine.registers()[..6].iter().eq(registers.iter()), true);
     }
     Ok(())
+}
+
+#[test]
+fn executes_beside_a_machine(rt: HostRuntime) -> Result<(), Fail> {
+    let memory = Memory::new(rt.alloc(), 0, 8)?;
+    let line = Retire {
+        pc: 12,
+        word: LW,
+        next: 16,
+        write: Write::One { rd: 2, value: 0 },
+        store: None,
+    };
+    assert_eq!(rt; executed(&memory, 0), Some(Stepped::Retired(line)));
+    let outside = Stepped::Stop(StopCause::LoadOutside);
+    assert_eq!(rt; executed(&memory, 4), Some(outside));
+    Ok(())
+}
+
+/// lw x2, 4(x1)
+const LW: u32 = 0x0040_a103;
+
+fn executed(memory: &Memory, a: u32) -> Option<Stepped> {
+    let instr = decode(LW)?;
+    Some(execute(memory, 12, LW, &instr, a, 0))
+}
+
+#[test]
+fn carries_and_writes_halves(rt: HostRuntime) {
+    assert!(rt; PARAMS.check().is_ok());
+    let mut registers = [0; 32];
+    registers[2] = 5;
+    registers[3] = 6;
+    registers[4] = 7;
+    // x2 and x3 on lane 0, and x4 on lane 1, which isn't read
+    let word = 0x0041_428b;
+    let (Some(flags), Some(pair)) = (ReadFlags::from_bits(3), WriteFlags::from_bits(3)) else {
+        return;
+    };
+    assert_eq!(rt;
+        lane_values(&PARAMS, &registers, word, flags),
+        [0x6_0000_0005, 0, 0]
+    );
+    assert_eq!(rt; is_read(&PARAMS, flags, 0, Half::High), true);
+    assert_eq!(rt; half_register(word, 0, Half::High), Some(3));
+    let write = Write::Pair {
+        rd: 4,
+        low: 1,
+        high: 2,
+    };
+    assert_eq!(rt; unit_write(4, pair, 0x2_0000_0001), write);
 }

@@ -1,5 +1,7 @@
-// Words as an assembler writes them, and values from another model.
-use rv32_table::{Access, Instr, Kind, Next, access, alu, branch, decode, rd_field, rs_field};
+//! Words as an assembler writes them, and values from another model.
+use rv32_table::{
+    Access, Instr, Kind, Next, access, alu, branch, decode, rd_field, rs_field, sign_extend,
+};
 use std::alloc::{AllocError, Global};
 use std::test::Fail;
 
@@ -184,6 +186,12 @@ fn fields_are_bits_of_a_word(rt: HostRuntime) {
     let word = 0xabcd_ef12;
     let lanes = [rs_field(word, 0), rs_field(word, 1), rs_field(word, 2)];
     assert_eq!(rt; (rd_field(word), lanes), (30, [27, 28, 21]));
+    let extended = [
+        sign_extend(0x800, 12),
+        sign_extend(0x7ff, 12),
+        sign_extend(word, 32),
+    ];
+    assert_eq!(rt; extended, [0xffff_f800, 0x7ff, word]);
 }
 
 #[test]

@@ -1,4 +1,5 @@
-// The text of a run, with the smallest parameters, and of one cycle with the greatest. Lines are joined by bars.
+//! The text of a run, with the smallest parameters, and of one cycle with the greatest. Lines are
+//! joined by bars.
 use std::alloc::{AllocError, Global};
 use std::test::Fail;
 use vcd_text::Writer;

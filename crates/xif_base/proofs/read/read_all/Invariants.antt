@@ -3,8 +3,8 @@ use Rattle.xif_base.specs.Files.{HasBytes}
 use Rattle.xif_base.proofs.Fronts.{IsFront}
 use Rattle.xif_base.proofs.read.read_all.Given as goal
 
-abbrev pub invariant-loop-bytes : goal.invariant-loop-bytes
-invariant-loop-bytes g l = record {
+abbrev pub invariant-pieces : goal.invariant-pieces
+invariant-pieces g l = record {
   front : (bytes : List ℕ) → HasBytes (g.S.Shelf.files l.fn.shelf) l.name bytes → IsFront l.bytes.items bytes;
   within : vec_len l.bytes ≤ l.limit;
   room : vec_len l.room ≡ 65536;
@@ -14,5 +14,5 @@ invariant-loop-bytes g l = record {
   faultless : g.S.Shelf.faultless l.fn.shelf → g.S.Shelf.faultless l.shelf;
 }
 
-abbrev pub decreases-loop-bytes : goal.decreases-loop-bytes
-decreases-loop-bytes g l = l.limit - vec_len l.bytes
+abbrev pub decreases-pieces : goal.decreases-pieces
+decreases-pieces g l = l.limit - vec_len l.bytes
