@@ -6,3 +6,4 @@ pub mod Waiting
 pub mod Feeding
 pub mod Ending
 pub mod Pieces
+pub mod Alive

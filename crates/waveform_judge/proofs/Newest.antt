@@ -7,8 +7,7 @@ use Rattle.std.proofs.lemmas.List.Elements.{filter_map-append}
 use Rattle.vcd_text.specs.declared.item.Item.{Item}
 use Rattle.vcd_text.specs.declared.item.Item.TheVariants.{Time, Change}
 use Rattle.xif_sampler.specs.declared.source.Source.{Source}
-use Rattle.xif_sampler.specs.Samples.{time_of, ended, sample_at, samples_by}
-use Rattle.xif_sampler.specs.Steps.{answer_to}
+use Rattle.xif_sampler.specs.Samples.{time_of, ended, sample_at, samples_by, answer_to}
 use Rattle.waveform_judge.specs.Newest.{newest}
 
 one : {X Y : Type 0} (f : X → Option Y) (x : X) (o : Option Y) → f x ≡ o → filter_map f (x ∷ []) ≡ option_to_list o

@@ -1,4 +1,4 @@
--- What a waveform comes to.
+-- The answer for a waveform: what is reported of its samples, or why it can't be judged.
 use Rattle.std.specs.Prelude.{◌≡◌, ◌⊎◌, ℕ, List, length, reverse, Result, Ok, Err}
 use Rattle.xif_base.specs.declared.params.Params.{Params}
 use Rattle.xif_signals.specs.declared.sample.Quad.{Quad}
@@ -18,36 +18,39 @@ use Rattle.waveform_judge.specs.declared.judged.Judged.{Judged}
 use Rattle.waveform_judge.specs.declared.judged.JudgeFail.{JudgeFail}
 use Rattle.waveform_judge.specs.declared.judged.JudgeFail.TheVariants.{Vcd, Map, NoMemory}
 
--- what is said of samples, the oldest first
+-- the answer for samples, the oldest first
 abbrev pub judged_by : Params → List (List Quad) → Judged
-judged_by params samples = record { cycles = length samples; verdict = first_fault params (reverse samples) }
+judged_by params samples =
+    record { cycles = length samples; verdict = first_fault params (reverse samples) }
 
 abbrev pub judged_from : Params → List Item → Result (List Source) MapFault → Result Judged MapFault
 judged_from params items (Ok sources) = Ok (judged_by params (samples_by sources items))
 judged_from params items (Err fault) = Err fault
 
--- what is said of the items of a waveform, by a map of the signals to its variables
+-- the answer for the items of a waveform, by a map of the signals to its variables
 abbrev pub judged_in : List Place → Params → List Variable → List Item → Result Judged MapFault
 judged_in map params variables items = judged_from params items (sources_of map variables params)
 
-abbrev pub told : Result Judged MapFault → Result Judged JudgeFail
-told (Ok judged) = Ok judged
-told (Err fault) = Err (Map fault)
+-- the same, with the fault of a map as that of a waveform
+abbrev pub with_map_fault : Result Judged MapFault → Result Judged JudgeFail
+with_map_fault (Ok judged) = Ok judged
+with_map_fault (Err fault) = Err (Map fault)
 
 abbrev pub judged_as : List Place → Params → Result Reading VcdFault → Result Judged JudgeFail
-judged_as map params (Ok reading) = told (judged_in map params reading.variables reading.items)
+judged_as map params (Ok reading) =
+    with_map_fault (judged_in map params reading.variables reading.items)
 judged_as map params (Err fault) = Err (Vcd fault)
 
--- What the text of a waveform comes to: its fault where it has no reading, else that of the map, else how many
--- samples it has and the first fault among them.
+-- The answer for the text of a waveform: its fault where it has no reading, else that of the map,
+-- else how many samples it has and the first fault among them.
 unfoldable pub judged_of : List Place → Params → List ℕ → Result Judged JudgeFail
 judged_of map params text = judged_as map params (reading_of text)
 
--- why a text can't be judged, by what its reader tells
+-- why a text can't be judged, by the answer of its reader
 abbrev pub fail_of : FeedFail → JudgeFail
 fail_of (feed.Vcd fault) = Vcd fault
 fail_of feed.NoMemory = NoMemory
 
--- there was no memory, or it is the fault that is meant
+-- it is out of memory, or the fault that is meant
 abbrev pub IsFail : Result Judged JudgeFail → JudgeFail → Type 0
 IsFail meant fail = (fail ≡ NoMemory) ⊎ (meant ≡ Err fail)

@@ -1,3 +1,3 @@
 pub mod Newest
 pub mod Judged
-pub mod Standing
+pub mod Represented

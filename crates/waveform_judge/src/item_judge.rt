@@ -1,5 +1,5 @@
-// From items to a verdict.
-ghost use Rattle.std.specs.Prelude.{◌≡◌, ◌<◌, ◌≤◌, ◌-◌, ◌^◌, ◌++◌, ◌∷◌, [], List, length, IfOk, OnOk};
+//! Samples the items of a waveform, and judges the samples.
+ghost use Rattle.std.specs.Prelude.{◌≡◌, ◌<◌, ◌≤◌, ◌+◌, ◌-◌, ◌^◌, ◌++◌, ◌∷◌, [], List, IfOk, OnOk};
 ghost use Rattle.std.specs.Option.{option_to_list};
 ghost use Rattle.xif_base.specs.declared.params.Params.{Params};
 ghost use Rattle.xif_base.specs.Params.{IsInRange};
@@ -7,8 +7,9 @@ ghost use Rattle.xif_signals.specs.declared.sample.Quad.{Quad};
 ghost use Rattle.vcd_text.specs.declared.declaration.Variable.{Variable};
 ghost use Rattle.vcd_text.specs.declared.item.Item.{Item};
 ghost use Rattle.xif_sampler.specs.declared.place.Place.{Place};
+ghost use Rattle.xif_judge.specs.Judging.{Represents};
 ghost use Rattle.waveform_judge.specs.Judged.{judged_in};
-ghost use Rattle.waveform_judge.specs.Standing.{IsOf, HasJudged, Waits, Took, is_waiting};
+ghost use Rattle.waveform_judge.specs.Represented.{IsOf, Waits, HasTaken, is_waiting};
 
 use crate::judged::Judged;
 use crate::signals::Signals;
@@ -16,11 +17,11 @@ use std::alloc::Global;
 use std::marker::Model;
 use vcd_text::{Declarations, Item};
 use xif_base::{NoMemory, Params};
-use xif_judge::{Judge, Verdict};
+use xif_judge::Judge;
 use xif_sampler::{MapFail, MapFault, Sampler, SignalMap};
 use xif_signals::Sample;
 
-/// Samples the items of a waveform, and judges the samples.
+/// Takes the items of a waveform in order, and judges their samples.
 #[derive(Drop)]
 pub struct ItemJudge<'a> {
     alloc: Global,
@@ -28,23 +29,22 @@ pub struct ItemJudge<'a> {
     params: Params,
     signals: Signals,
     judge: Judge,
-    /// The first fault so far.
-    verdict: Option<Verdict>,
 }
 
 impl<'a> Model for ItemJudge<'a> {
     ghost use Rattle.xif_base.specs.Params.{IsInRange};
-    ghost use Rattle.waveform_judge.specs.Standing.{ItemJudging};
+    ghost use Rattle.waveform_judge.specs.Represented.{ItemJudging};
 
     ghost Value = { ItemJudging };
 
-    ghost view = { λ j. record { map = j.map.now; params = j.params; signals = j.signals; judge = j.judge; verdict = j.verdict } };
+    ghost view = { λ j.
+        record { map = j.map.now; params = j.params; signals = j.signals; judge = j.judge } };
 
     ghost invariant = { λ j. IsInRange j.params };
 }
 
 impl<'a> ItemJudge<'a> {
-    /// Nothing was declared yet.
+    /// A judge that waits for the declarations.
     pub fn new(
         alloc: Global,
         map: &'a SignalMap,
@@ -59,7 +59,6 @@ impl<'a> ItemJudge<'a> {
             params: *params,
             signals: Signals::Awaited,
             judge: Judge::new(alloc, params)?,
-            verdict: None,
         })
     }
 
@@ -72,8 +71,9 @@ impl<'a> ItemJudge<'a> {
 
     /// Finds the signals among the variables of the waveform.
     pub fn find(&mut self, declarations: &Declarations) -> Result<(), NoMemory>
-        ensures { (map : List Place) (params : Params) → Waits self.old map params
-            → OnOk result (Took self.new map params declarations.now []) }
+        ensures found { (map : List Place) (params : Params) → Waits self.old map params
+            → OnOk result (HasTaken self.new map params declarations.now []) }
+        ensures judge { self.new.judge ≡ self.old.judge }
     {
         self.signals = match Sampler::new(self.alloc, self.map, declarations, &self.params) {
             Ok(sampler) => Signals::Found(sampler),
@@ -85,9 +85,11 @@ impl<'a> ItemJudge<'a> {
 
     /// Takes the next item of the waveform.
     pub fn take(&mut self, item: &Item)
-        ensures { (map : List Place) (params : Params) (variables : List Variable) (items : List Item)
-            → Took self.old map params variables items → length items < 2 ^ 32
-            → Took self.new map params variables (items ++ item.now ∷ []) }
+        requires { self.old.judge.cycles < 2 ^ 64 - 1 }
+        ensures taken { (map : List Place) (params : Params) (variables : List Variable)
+            (items : List Item) → HasTaken self.old map params variables items
+            → HasTaken self.new map params variables (items ++ item.now ∷ []) }
+        ensures cycles { self.new.judge.cycles ≤ self.old.judge.cycles + 1 }
     {
         if let Signals::Found(sampler) = &mut self.signals {
             let sample = sampler.take(item);
@@ -97,8 +99,9 @@ impl<'a> ItemJudge<'a> {
 
     /// Ends the waveform.
     pub fn finish(&mut self) -> Result<Judged, MapFault>
-        ensures { (map : List Place) (params : Params) (variables : List Variable) (items : List Item)
-            → Took self.old map params variables items → length items ≤ 2 ^ 32
+        requires { self.old.judge.cycles < 2 ^ 64 - 1 }
+        ensures { (map : List Place) (params : Params) (variables : List Variable)
+            (items : List Item) → HasTaken self.old map params variables items
             → result ≡ judged_in map params variables items }
     {
         let sample = match &mut self.signals {
@@ -109,21 +112,23 @@ impl<'a> ItemJudge<'a> {
         self.judge_sample(sample);
         Ok(Judged {
             cycles: self.judge.cycles(),
-            verdict: self.verdict,
+            verdict: self.judge.verdict(),
         })
     }
 
-    // Judges a sample, if there is one.
+    /// Judges a sample, if there is one.
     fn judge_sample(&mut self, sample: Option<Sample>)
-        ensures judged { (params : Params) (history : List (List Quad)) → HasJudged self.old params history
-            → length history < 2 ^ 64 - 1 → HasJudged self.new params (option_to_list sample ++ history) }
+        requires { self.old.judge.cycles < 2 ^ 64 - 1 }
+        ensures judged { (params : Params) (history : List (List Quad))
+            → Represents self.old.judge params history
+            → Represents self.new.judge params (option_to_list sample ++ history) }
+        ensures cycles { self.new.judge.cycles ≤ self.old.judge.cycles + 1 }
         ensures same { IsOf self.new self.old.map self.old.params }
         ensures signals { self.new.signals ≡ self.old.signals }
     {
-        let Some(sample) = sample else { return };
-        // A waveform has no more samples than bytes, which are fewer than 2^32.
-        if self.judge.cycles() < u64::MAX {
-            self.verdict = self.judge.step(&sample).err();
+        if let Some(sample) = sample {
+            // The judge keeps the verdict.
+            let _ = self.judge.step(&sample);
         }
     }
 }

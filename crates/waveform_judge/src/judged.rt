@@ -1,13 +1,13 @@
-// What a waveform comes to.
+//! The answer for a waveform.
 use vcd_text::{FeedFail, VcdFault};
 use xif_base::NoMemory;
 use xif_judge::Verdict;
 use xif_sampler::MapFault;
 
-/// What is said of a waveform that has a reading, and in which the signals are found.
+/// The answer for a waveform that has a reading, and in which the signals are found.
 #[derive(Clone, Copy, Debug, PartialEq, Eq)]
 pub struct Judged {
-    /// How many cycles it has: instants in which the clock rises.
+    /// The number of its cycles, the instants in which the clock rises.
     pub cycles: u64,
     /// The first fault, if there is one.
     pub verdict: Option<Verdict>,
@@ -18,8 +18,9 @@ pub struct Judged {
 pub enum JudgeFail {
     /// Its text has no reading.
     Vcd(VcdFault),
-    /// Its text has a reading, in which a signal isn't found.
+    /// Its text has a reading, but a signal isn't found in it.
     Map(MapFault),
+    /// Out of memory.
     NoMemory,
 }
 

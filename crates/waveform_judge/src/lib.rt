@@ -1,12 +1,12 @@
-//! Judges waveforms: the bytes of a text, piece by piece, become items, samples and a verdict, and no more of
-//! the waveform is kept than a piece.
+//! Judges waveforms: the bytes of a text, piece by piece, become items, samples and a verdict, and
+//! no more of the waveform is kept than a piece.
 //!
-//! The layers above may use `WaveformJudge`, which takes a text in pieces, and `judge_waveform` for a text that
-//! is there as a whole. `Judged` says how many cycles the waveform has and which fault is the first, and
-//! `JudgeFail` why it can't be judged.
+//! The layers above may use `WaveformJudge`, which takes a text in pieces, and `judge_waveform` for
+//! a whole text. `Judged` has the number of cycles of the waveform and its first fault, and
+//! `JudgeFail` says why it can't be judged.
 //!
-//! The definitions stand in `specs/`: `Judged` (what a waveform comes to), `Standing` (for which text a
-//! `WaveformJudge` stands) and `Newest` (the samples of a history).
+//! The definitions are in `specs/`: `Judged` (the answer for a waveform), `Represented` (which text
+//! a `WaveformJudge` represents) and `Newest` (the samples of a history).
 #![tactic(auto)]
 
 mod item_judge;

@@ -1,13 +1,13 @@
-// Where the signals of a waveform stand.
+//! Whether the signals of a waveform were found.
 use xif_sampler::{MapFault, Sampler};
 
-/// What is known of the signals of a waveform.
+/// Whether the signals of a waveform were found.
 #[derive(Debug, Drop)]
 pub enum Signals {
     /// The declarations weren't read yet.
     Awaited,
     /// The signals were found, and are sampled.
     Found(Sampler),
-    /// One of them wasn't.
+    /// One of them wasn't found.
     Lost(MapFault),
 }

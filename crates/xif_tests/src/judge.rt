@@ -1,11 +1,11 @@
-// The first fault of short lists of samples, by K1, K2 and H1.
+//! A judge of a few samples: what it returns at each step, and its verdict.
 ghost use Rattle.xif_base.specs.Params.{IsInRange};
 
 use std::alloc::Global;
 use std::test::Fail;
-use xif_base::{Key, NoMemory, Params};
-use xif_judge::{Judge, Verdict};
-use xif_signals::{Bus, Channel, Quad, Rule, Sample, Signal};
+use xif_base::Params;
+use xif_judge::Judge;
+use xif_signals::{Bus, Quad, Sample, Signal};
 
 /// A hartid has two bits, and 2 and 3 are those of no hart.
 fn two_harts() -> Params
@@ -56,166 +56,45 @@ const BUS: Bus = Bus {
     result_we: 1,
 };
 
-/// A signal with its value, and which of its bits are unknown.
-type Change = (Signal, u64, u64);
-
-/// What changes of the bus in each cycle, and the first fault: its cycle, rule and channel, and the key.
-struct Case {
-    name: &'static str,
-    cycles: &'static [&'static [Change]],
-    first: Option<(u64, Rule, Channel, Option<(u8, u16)>)>,
-}
-
-const CASES: [Case; 15] = [
-    Case {
-        name: "no fault",
-        cycles: &[&[], &[(Signal::IssueHartid, 0, 0)]],
-        first: None,
-    },
-    Case {
-        name: "hartid of issue",
-        cycles: &[&[], &[(Signal::IssueHartid, 2, 0)], &[]],
-        first: Some((1, Rule::H1, Channel::Issue, Some((2, 1)))),
-    },
-    Case {
-        name: "hartid of register",
-        cycles: &[&[(Signal::RegisterHartid, 3, 0)]],
-        first: Some((0, Rule::H1, Channel::Register, Some((3, 2)))),
-    },
-    Case {
-        name: "hartid of commit",
-        cycles: &[&[(Signal::CommitHartid, 2, 0)]],
-        first: Some((0, Rule::H1, Channel::Commit, Some((2, 3)))),
-    },
-    Case {
-        name: "hartid of result",
-        cycles: &[&[(Signal::ResultHartid, 3, 0)]],
-        first: Some((0, Rule::H1, Channel::Result, Some((3, 4)))),
-    },
-    Case {
-        name: "hartids of three channels",
-        cycles: &[&[
-            (Signal::ResultHartid, 2, 0),
-            (Signal::CommitHartid, 3, 0),
-            (Signal::RegisterHartid, 2, 0),
-        ]],
-        first: Some((0, Rule::H1, Channel::Register, Some((2, 2)))),
-    },
-    Case {
-        name: "hartids without a valid",
-        cycles: &[&[
-            (Signal::IssueValid, 0, 0),
-            (Signal::IssueHartid, 2, 0),
-            (Signal::RegisterValid, 0, 0),
-            (Signal::RegisterHartid, 3, 0),
-            (Signal::CommitValid, 0, 0),
-            (Signal::CommitHartid, 2, 0),
-            (Signal::ResultValid, 0, 0),
-            (Signal::ResultHartid, 3, 0),
-        ]],
-        first: None,
-    },
-    Case {
-        name: "bits above the width",
-        cycles: &[&[(Signal::IssueHartid, 5, 0), (Signal::CommitHartid, 7, 8)]],
-        first: Some((0, Rule::H1, Channel::Commit, Some((3, 3)))),
-    },
-    Case {
-        name: "K1 before H1 in a cycle",
-        cycles: &[&[(Signal::IssueHartid, 2, 0), (Signal::ResultReady, 0, 1)]],
-        first: Some((0, Rule::K1, Channel::Result, None)),
-    },
-    Case {
-        name: "K2 before H1 in a cycle",
-        cycles: &[&[(Signal::IssueHartid, 2, 0), (Signal::CommitId, 0, 4)]],
-        first: Some((0, Rule::K2, Channel::Commit, None)),
-    },
-    Case {
-        name: "H1 before a later K1",
-        cycles: &[
-            &[],
-            &[(Signal::ResultHartid, 2, 0)],
-            &[(Signal::IssueValid, 0, 1)],
-        ],
-        first: Some((1, Rule::H1, Channel::Result, Some((2, 4)))),
-    },
-    Case {
-        name: "the first of two of one rule",
-        cycles: &[
-            &[(Signal::CommitHartid, 2, 0)],
-            &[(Signal::IssueHartid, 3, 0)],
-        ],
-        first: Some((0, Rule::H1, Channel::Commit, Some((2, 3)))),
-    },
-    Case {
-        name: "reset in between",
-        cycles: &[
-            &[],
-            &[(Signal::RstN, 0, 0), (Signal::IssueHartid, 3, 0)],
-            &[(Signal::RstN, 1, 1), (Signal::RegisterReady, 0, 1)],
-            &[(Signal::CommitKill, 0, 1)],
-            &[(Signal::RstN, 0, 0)],
-        ],
-        first: Some((3, Rule::K2, Channel::Commit, None)),
-    },
-    Case {
-        name: "reset alone",
-        cycles: &[&[(Signal::RstN, 0, 0), (Signal::CommitValid, 0, 1)]],
-        first: None,
-    },
-    Case {
-        name: "bits of the reset above its width",
-        cycles: &[
-            &[(Signal::RstN, 2, 0), (Signal::IssueHartid, 2, 0)],
-            &[(Signal::RstN, 3, 2), (Signal::IssueHartid, 2, 0)],
-        ],
-        first: Some((1, Rule::H1, Channel::Issue, Some((2, 1)))),
-    },
-];
+/// What is driven as hartid of commit and as reset, where bits above the width don't count.
+const CYCLES: [(u64, u64); 6] = [(1, 1), (5, 3), (2, 0), (2, 2), (7, 1), (2, 1)];
 
 #[test]
-fn the_first_fault_is_told_from_its_cycle_on(rt: HostRuntime) -> Result<(), Fail> {
-    for case in &CASES {
-        let (answers, cycles) = answers_of(rt.alloc(), case.cycles)?;
-        assert_eq!(rt; (case.name, cycles), (case.name, case.cycles.len() as u64));
-        for (cycle, answer) in answers.iter().enumerate() {
-            let told = verdict_of(case).filter(|verdict| verdict.cycle <= cycle as u64);
-            assert_eq!(rt; (case.name, cycle, *answer), (case.name, cycle, told));
-        }
-    }
+fn the_first_fault_stays(rt: HostRuntime) -> Result<(), Fail> {
+    let text = text_of_answers(rt.alloc())?;
+    assert_eq!(rt; text.as_str(), ANSWERS);
     Ok(())
 }
 
-/// What a judge tells at each step, and how many it counted.
-fn answers_of(
-    alloc: Global,
-    cycles: &[&'static [Change]],
-) -> Result<(Vec<Option<Verdict>>, u64), NoMemory> {
+/// What a judge returns at each step, and its verdict.
+fn text_of_answers(alloc: Global) -> Result<String, Fail> {
     let mut judge = Judge::new(alloc, &two_harts())?;
-    let mut answers = Vec::new(alloc);
-    for changes in cycles {
-        answers.push(judge.step(&sample_of(changes)).err())?;
+    let mut text = String::new(alloc);
+    for (hartid, reset) in &CYCLES {
+        let answer = judge.step(&sample_of(*hartid, *reset));
+        writeln!(text, "{} {answer:?}", judge.cycles())?;
     }
-    Ok((answers, judge.cycles()))
+    writeln!(text, "{:?}", judge.verdict())?;
+    Ok(text)
 }
 
-fn sample_of(changes: &[Change]) -> Sample {
+fn sample_of(hartid: u64, reset: u64) -> Sample {
     let mut sample = BUS.sample();
-    for (signal, value, unknown) in changes {
-        let (value, unknown) = (*value, *unknown);
-        if *signal != Signal::Clk {
-            sample.set(*signal, Quad { value, unknown });
-        }
-    }
+    sample.set(Signal::CommitHartid, known(hartid));
+    sample.set(Signal::RstN, known(reset));
     sample
 }
 
-fn verdict_of(case: &Case) -> Option<Verdict> {
-    let (cycle, rule, channel, key) = case.first?;
-    Some(Verdict {
-        cycle,
-        rule,
-        channel,
-        key: key.map(|(hart, id)| Key { hart, id }),
-    })
+fn known(value: u64) -> Quad {
+    Quad { value, unknown: 0 }
 }
+
+const ANSWERS: &str = "\
+1 Ok(())
+2 Ok(())
+3 Ok(())
+4 Ok(())
+5 Err(Verdict { cycle: 4, rule: H1, channel: Commit, key: Some(Key { hart: 3, id: 3 }) })
+6 Err(Verdict { cycle: 4, rule: H1, channel: Commit, key: Some(Key { hart: 3, id: 3 }) })
+Some(Verdict { cycle: 4, rule: H1, channel: Commit, key: Some(Key { hart: 3, id: 3 }) })
+";

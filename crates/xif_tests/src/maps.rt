@@ -1,4 +1,4 @@
-// Maps of signals to the variables of a waveform: which fit, and the first fault of one that doesn't.
+//! Maps of signals to the variables of a waveform: the first fault of each, as a text.
 ghost use Rattle.xif_base.specs.Params.{IsInRange};
 
 use std::alloc::Global;
@@ -75,65 +75,62 @@ const NAMES: [(&str, u32, u32); 9] = [
     ("xif.rst_nn", 0, 1),
 ];
 
-/// A place of one signal, all others being constants, and the fault.
-const FITS: [(Signal, Spot, Option<MapFault>); 20] = [
-    (Signal::Clk, Spot::Named("c", 0, None), None),
-    (
-        Signal::Clk,
-        Spot::Named("d", 0, None),
-        Some(MapFault::Missing(Signal::Clk)),
-    ),
-    (
-        Signal::IssueValid,
-        Spot::Left,
-        Some(MapFault::Missing(Signal::IssueValid)),
-    ),
-    (Signal::IssueId, Spot::Left, None),
-    (Signal::RstN, Spot::Left, None),
-    (
-        Signal::IssueValid,
-        Spot::Named("twice", 0, None),
-        Some(MapFault::Ambiguous(Signal::IssueValid)),
-    ),
-    (Signal::IssueValid, Spot::Named("same", 3, None), None),
-    (
-        Signal::IssueValid,
-        Spot::Named("same", 4, None),
-        Some(MapFault::Narrow(Signal::IssueValid)),
-    ),
-    (
-        Signal::IssueValid,
-        Spot::Named("empty", 0, None),
-        Some(MapFault::Narrow(Signal::IssueValid)),
-    ),
-    (Signal::IssueId, Spot::Named("byte", 5, None), None),
-    (
-        Signal::IssueId,
-        Spot::Named("byte", 6, None),
-        Some(MapFault::Narrow(Signal::IssueId)),
-    ),
+/// A place of one signal, all others being constants.
+const SPOTS: [(Signal, Spot); 20] = [
+    (Signal::Clk, Spot::Named("c", 0, None)),
+    (Signal::Clk, Spot::Named("d", 0, None)),
+    (Signal::IssueValid, Spot::Left),
+    (Signal::IssueId, Spot::Left),
+    (Signal::RstN, Spot::Left),
+    (Signal::IssueValid, Spot::Named("twice", 0, None)),
+    (Signal::IssueValid, Spot::Named("same", 3, None)),
+    (Signal::IssueValid, Spot::Named("same", 4, None)),
+    (Signal::IssueValid, Spot::Named("empty", 0, None)),
+    (Signal::IssueId, Spot::Named("byte", 5, None)),
+    (Signal::IssueId, Spot::Named("byte", 6, None)),
     (
         Signal::IssueId,
         Spot::Named("byte", u32::MAX, Some(u32::MAX)),
-        Some(MapFault::Narrow(Signal::IssueId)),
     ),
-    (Signal::IssueId, Spot::Named("byte", 5, Some(7)), None),
-    (Signal::IssueId, Spot::Named("byte", 0, Some(7)), None),
-    (
-        Signal::IssueId,
-        Spot::Named("byte", 0, Some(8)),
-        Some(MapFault::Narrow(Signal::IssueId)),
-    ),
-    (Signal::IssueId, Spot::Named("byte", 2, Some(4)), None),
-    (
-        Signal::IssueId,
-        Spot::Named("byte", 2, Some(3)),
-        Some(MapFault::Narrow(Signal::IssueId)),
-    ),
-    (Signal::RegisterRs2, Spot::Named("d", 40, Some(3)), None),
-    (Signal::RegisterRs2, Spot::Named("twice", 40, Some(3)), None),
-    (Signal::RegisterRs2, Spot::Left, None),
+    (Signal::IssueId, Spot::Named("byte", 5, Some(7))),
+    (Signal::IssueId, Spot::Named("byte", 0, Some(7))),
+    (Signal::IssueId, Spot::Named("byte", 0, Some(8))),
+    (Signal::IssueId, Spot::Named("byte", 2, Some(4))),
+    (Signal::IssueId, Spot::Named("byte", 2, Some(3))),
+    (Signal::RegisterRs2, Spot::Named("d", 40, Some(3))),
+    (Signal::RegisterRs2, Spot::Named("twice", 40, Some(3))),
+    (Signal::RegisterRs2, Spot::Left),
 ];
+
+/// Two signals that have a fault: the first in the order of the table counts, whichever was set first.
+const BOTH: [(Signal, Spot); 2] = [
+    (Signal::ResultWe, Spot::Named("d", 0, None)),
+    (Signal::IssueValid, Spot::Named("same", 4, None)),
+];
+
+const FAULTS: &str = "\
+None
+Some(Missing(clk))
+Some(Missing(issue_valid))
+None
+None
+Some(Ambiguous(issue_valid))
+None
+Some(Narrow(issue_valid))
+Some(Narrow(issue_valid))
+None
+Some(Narrow(issue_id))
+Some(Narrow(issue_id))
+None
+None
+Some(Narrow(issue_id))
+None
+Some(Narrow(issue_id))
+None
+None
+None
+Some(Narrow(issue_valid))
+";
 
 fn declared(alloc: Global, table: &[(&'static str, u32, u32)]) -> Result<Declarations, NoMemory> {
     let mut declarations = Declarations::new(alloc);
@@ -160,17 +157,19 @@ fn fault_of(alloc: Global, places: &[(Signal, Spot)]) -> Result<Option<MapFault>
 
 #[test]
 fn faults_of_maps(rt: HostRuntime) -> Result<(), Fail> {
-    for (signal, spot, expected) in FITS.iter() {
-        assert_eq!(rt; fault_of(rt.alloc(), &[(*signal, *spot)])?, *expected);
-    }
-    // The first in the order of the table, whichever was set first.
-    let both = [
-        (Signal::ResultWe, Spot::Named("d", 0, None)),
-        (Signal::IssueValid, Spot::Named("same", 4, None)),
-    ];
-    let first = Some(MapFault::Narrow(Signal::IssueValid));
-    assert_eq!(rt; fault_of(rt.alloc(), &both)?, first);
+    let text = text_of_faults(rt.alloc())?;
+    assert_eq!(rt; text.as_str(), FAULTS);
     Ok(())
+}
+
+/// The fault of each map, a line each.
+fn text_of_faults(alloc: Global) -> Result<String, Fail> {
+    let mut text = String::new(alloc);
+    for spot in &SPOTS {
+        writeln!(text, "{:?}", fault_of(alloc, &[*spot])?)?;
+    }
+    writeln!(text, "{:?}", fault_of(alloc, &BOTH)?)?;
+    Ok(text)
 }
 
 #[test]

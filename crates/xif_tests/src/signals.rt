@@ -1,12 +1,13 @@
-// The table of the signals, and which rule is told where bits of a bus aren't known, as texts.
+//! The table of the signals, the channels of a bus, and which rule is reported where bits of a bus are
+//! unknown, as texts.
 ghost use Rattle.std.specs.Prelude.{◌≢◌, ◌≤◌};
 ghost use Rattle.xif_base.specs.Params.{IsInRange};
 ghost use Rattle.xif_signals.specs.declared.signal.Signal.TheVariants.{Clk};
 
 use std::alloc::{AllocError, Global};
 use std::test::Fail;
-use xif_base::Params;
-use xif_signals::{Bus, CopOut, CpuIn, CpuOut, Quad, Sample, Signal, Unknown};
+use xif_base::{Key, Params};
+use xif_signals::{Bus, Channel, CopOut, CpuIn, CpuOut, Quad, Sample, Signal, Unknown};
 
 fn smallest() -> Params
     ensures { IsInRange result }
@@ -59,44 +60,83 @@ fn text_of_table(alloc: Global) -> Result<String, AllocError> {
     Ok(text)
 }
 
-/// A line of the table: number, code, name, and the widths under the smallest and the greatest parameters.
+/// A line of the table: number, code, name, what Debug prints, and the widths under the smallest and the
+/// greatest parameters.
 fn write_line(text: &mut String, signal: Signal) -> Result<(), AllocError> {
     let (number, code, name) = (signal.number(), char::from(signal.code()), signal.name());
     let least = signal.width(&smallest());
     let most = signal.width(&greatest(3));
-    writeln!(text, "{number} {code} {name} {least} {most}")
+    writeln!(text, "{number} {code} {name} {signal:?} {least} {most}")
 }
 
 const TABLE: &str = "\
-0 ! clk 1 1
-1 \" rst_n 1 1
-2 # issue_valid 1 1
-3 $ issue_ready 1 1
-4 % issue_hartid 1 8
-5 & issue_id 3 12
-6 ' issue_instr 32 32
-7 ( issue_accept 1 1
-8 ) issue_writeback 1 2
-9 * issue_register_read 2 6
-10 + register_valid 1 1
-11 , register_ready 1 1
-12 - register_hartid 1 8
-13 . register_id 3 12
-14 / register_rs0 32 64
-15 0 register_rs1 32 64
-16 1 register_rs2 0 64
-17 2 register_rs_valid 2 6
-18 3 commit_valid 1 1
-19 4 commit_hartid 1 8
-20 5 commit_id 3 12
-21 6 commit_kill 1 1
-22 7 result_valid 1 1
-23 8 result_ready 1 1
-24 9 result_hartid 1 8
-25 : result_id 3 12
-26 ; result_data 32 64
-27 < result_rd 5 5
-28 = result_we 1 2
+0 ! clk clk 1 1
+1 \" rst_n rst_n 1 1
+2 # issue_valid issue_valid 1 1
+3 $ issue_ready issue_ready 1 1
+4 % issue_hartid issue_hartid 1 8
+5 & issue_id issue_id 3 12
+6 ' issue_instr issue_instr 32 32
+7 ( issue_accept issue_accept 1 1
+8 ) issue_writeback issue_writeback 1 2
+9 * issue_register_read issue_register_read 2 6
+10 + register_valid register_valid 1 1
+11 , register_ready register_ready 1 1
+12 - register_hartid register_hartid 1 8
+13 . register_id register_id 3 12
+14 / register_rs0 register_rs0 32 64
+15 0 register_rs1 register_rs1 32 64
+16 1 register_rs2 register_rs2 0 64
+17 2 register_rs_valid register_rs_valid 2 6
+18 3 commit_valid commit_valid 1 1
+19 4 commit_hartid commit_hartid 1 8
+20 5 commit_id commit_id 3 12
+21 6 commit_kill commit_kill 1 1
+22 7 result_valid result_valid 1 1
+23 8 result_ready result_ready 1 1
+24 9 result_hartid result_hartid 1 8
+25 : result_id result_id 3 12
+26 ; result_data result_data 32 64
+27 < result_rd result_rd 5 5
+28 = result_we result_we 1 2
+";
+
+/// The valid and the key of each channel, the first channel that isn't valid, and whether the cycle is in a
+/// session.
+#[test]
+fn the_channels_of_a_bus(rt: HostRuntime) -> Result<(), Fail> {
+    let text = text_of_channels(rt.alloc(), &CASES[1])?;
+    assert_eq!(rt; text.as_str(), CHANNELS);
+    Ok(())
+}
+
+fn text_of_channels(alloc: Global, case: &Case) -> Result<String, AllocError> {
+    let mut text = String::new(alloc);
+    let bus = Bus {
+        issue_valid: true,
+        ..bus_of(case)
+    };
+    for channel in [
+        Channel::Issue,
+        Channel::Register,
+        Channel::Commit,
+        Channel::Result,
+    ] {
+        let Key { hart, id } = bus.key(channel);
+        writeln!(text, "{channel:?} {} {hart} {id}", bus.is_valid(channel))?;
+    }
+    let first = Channel::first_failing(|channel| bus.is_valid(channel));
+    let is_in_session = bus.sample().is_in_session(&params_of(case));
+    writeln!(text, "{first:?} {is_in_session}")?;
+    Ok(text)
+}
+
+const CHANNELS: &str = "\
+Issue true 3 2748
+Register false 2 4077
+Commit false 1 291
+Result false 4 1110
+Some(Register) true
 ";
 
 /// What the rules look at in a bus, and X_DUALREAD: with 0 the parameters are the smallest.
@@ -213,7 +253,7 @@ fn bus_of(case: &Case) -> Bus {
 #[test]
 fn each_part_of_the_rules_fails_alone(rt: HostRuntime) -> Result<(), Fail> {
     let text = text_of_cases(rt.alloc())?;
-    assert_eq!(rt; text.as_str(), TOLD);
+    assert_eq!(rt; text.as_str(), REPORTED);
     Ok(())
 }
 
@@ -222,26 +262,26 @@ fn text_of_cases(alloc: Global) -> Result<String, AllocError> {
     for case in &CASES {
         write_case(&mut text, case)?;
     }
-    write_told_in_turn(&mut text)?;
+    write_reported_in_turn(&mut text)?;
     Ok(text)
 }
 
-/// What the bus is known as, and what is told of it.
+/// What the bus is known as, and what is reported of it.
 fn write_case(text: &mut String, case: &Case) -> Result<(), AllocError> {
     let bus = bus_of(case);
     let params = params_of(case);
     writeln!(text, "{}: {:?}", case.name, bus.sample().known(&params))?;
-    write_told(text, &bus, &params)
+    write_reported(text, &bus, &params)
 }
 
-/// A line for each half of a signal that counts: what is told where that half alone isn't known.
-fn write_told(text: &mut String, bus: &Bus, params: &Params) -> Result<(), AllocError>
+/// A line for each half of a signal that counts: what is reported where that half alone is unknown.
+fn write_reported(text: &mut String, bus: &Bus, params: &Params) -> Result<(), AllocError>
     requires { IsInRange params.now }
 {
     for signal in Signal::all() {
         if signal != Signal::Clk {
-            tell(text, &mut bus.sample(), signal, LOW, params)?;
-            tell(text, &mut bus.sample(), signal, HIGH, params)?;
+            report(text, &mut bus.sample(), signal, LOW, params)?;
+            report(text, &mut bus.sample(), signal, HIGH, params)?;
         }
     }
     Ok(())
@@ -251,8 +291,8 @@ const LOW: (&str, u64) = ("low", 0xffff_ffff);
 
 const HIGH: (&str, u64) = ("high", 0xffff_ffff_0000_0000);
 
-/// What is told where a half of a signal isn't known.
-fn tell(
+/// What is reported where a half of a signal is unknown.
+fn report(
     text: &mut String,
     sample: &mut Sample,
     signal: Signal,
@@ -271,8 +311,8 @@ fn tell(
     Ok(())
 }
 
-/// The first rule and its first channel, while more and more isn't known.
-fn write_told_in_turn(text: &mut String) -> Result<(), AllocError> {
+/// The first rule and its first channel, while more and more is unknown.
+fn write_reported_in_turn(text: &mut String) -> Result<(), AllocError> {
     let mut sample = bus_of(&CASES[0]).sample();
     for signal in [
         Signal::ResultId,
@@ -282,13 +322,13 @@ fn write_told_in_turn(text: &mut String) -> Result<(), AllocError> {
         Signal::RegisterReady,
     ] {
         if signal != Signal::Clk {
-            tell(text, &mut sample, signal, LOW, &greatest(3))?;
+            report(text, &mut sample, signal, LOW, &greatest(3))?;
         }
     }
     Ok(())
 }
 
-const TOLD: &str = "\
+const REPORTED: &str = "\
 whole: Ok(Bus { issue_valid: true, issue_ready: true, issue_hartid: 3, issue_id: 2748, issue_instr: 2309737967, issue_accept: true, issue_writeback: 3, issue_register_read: 42, register_valid: true, register_ready: true, register_hartid: 2, register_id: 4077, register_rs0: 81985529216486895, register_rs1: 18446744073709551615, register_rs2: 9223372043297226753, register_rs_valid: 63, commit_valid: true, commit_hartid: 1, commit_id: 291, commit_kill: true, result_valid: true, result_ready: true, result_hartid: 4, result_id: 1110, result_data: 18364758544493064720, result_rd: 30, result_we: 3 })
 K1 Issue issue_valid low
 K1 Issue issue_ready low

@@ -1,5 +1,5 @@
-// What small waveforms say: their samples, whatever the pieces in which a text is read. The samples are those of an
-// independent model of the format.
+//! The samples of small waveforms, whatever the pieces in which a text is read. They are those of an
+//! independent model of the format.
 ghost use Rattle.xif_base.specs.Params.{IsInRange};
 
 use crate::maps::{Spot, map_of, params_of_64_bits};
@@ -11,15 +11,6 @@ use vcd_text::{Item, Reader};
 use xif_base::Params;
 use xif_sampler::{SignalMap, sample_items};
 use xif_signals::{Quad, Sample, Signal};
-
-/// A text, where its signals are found, and its samples.
-struct Case {
-    text: &'static str,
-    places: &'static [(Signal, Spot)],
-    /// The place of all other signals.
-    others: Spot,
-    samples: &'static str,
-}
 
 /// The default parameters of a job.
 fn least_params() -> Params
@@ -38,35 +29,6 @@ fn least_params() -> Params
         profile: 1,
     }
 }
-
-const CASES: [Case; 4] = [
-    Case {
-        text: PACKED,
-        places: &PACKED_PLACES,
-        others: Spot::Number(0),
-        samples: PACKED_SAMPLES,
-    },
-    // A clock that rises twice.
-    Case {
-        text: "$var wire 1 ! c $end\n$enddefinitions $end\n#0\n0!\n#5\n1!\n#10\n0!\n#15\n1!\n",
-        places: &CONSTANTS,
-        others: Spot::Number(0),
-        samples: "sample rst_n=1 issue_valid=1 issue_ready=1 issue_accept=1\nsample rst_n=1 issue_valid=1 issue_ready=1 issue_accept=1\n",
-    },
-    // A clock that is unknown before its only 1.
-    Case {
-        text: "$var wire 1 ! c $end\n$enddefinitions $end\n#0\nx!\n#5\n1!\n",
-        places: &CONSTANTS,
-        others: Spot::Number(0),
-        samples: "",
-    },
-    Case {
-        text: TRACE,
-        places: &[],
-        others: Spot::Left,
-        samples: TRACE_SAMPLES,
-    },
-];
 
 // Packed signals in nested scopes, which are unknown at first.
 
@@ -161,170 +123,11 @@ sample rst_n=1 issue_hartid=0?1 issue_id=0?7 issue_instr=0?ffffffff issue_accept
 sample rst_n=1 issue_valid=1 issue_ready=1 issue_id=2 issue_instr=700b
 ";
 
-const CONSTANTS: [(Signal, Spot); 5] = [
-    (Signal::Clk, Spot::Named("c", 0, None)),
-    (Signal::RstN, Spot::Number(1)),
-    (Signal::IssueValid, Spot::Number(1)),
-    (Signal::IssueReady, Spot::Number(1)),
-    (Signal::IssueAccept, Spot::Number(1)),
-];
-
-// A trace as the writer writes it, of a program that offers three instructions and kills one.
-
-const TRACE: &str = "\
-$timescale 1 ns $end
-$scope module xif $end
-$var wire 1 ! clk $end
-$var wire 1 \" rst_n $end
-$var wire 1 # issue_valid $end
-$var wire 1 $ issue_ready $end
-$var wire 1 % issue_hartid $end
-$var wire 3 & issue_id $end
-$var wire 32 ' issue_instr $end
-$var wire 1 ( issue_accept $end
-$var wire 1 ) issue_writeback $end
-$var wire 2 * issue_register_read $end
-$var wire 1 + register_valid $end
-$var wire 1 , register_ready $end
-$var wire 1 - register_hartid $end
-$var wire 3 . register_id $end
-$var wire 32 / register_rs0 $end
-$var wire 32 0 register_rs1 $end
-$var wire 2 2 register_rs_valid $end
-$var wire 1 3 commit_valid $end
-$var wire 1 4 commit_hartid $end
-$var wire 3 5 commit_id $end
-$var wire 1 6 commit_kill $end
-$var wire 1 7 result_valid $end
-$var wire 1 8 result_ready $end
-$var wire 1 9 result_hartid $end
-$var wire 3 : result_id $end
-$var wire 32 ; result_data $end
-$var wire 5 < result_rd $end
-$var wire 1 = result_we $end
-$upscope $end
-$enddefinitions $end
-#0
-0!
-1\"
-0#
-0$
-0%
-b0 &
-b0 '
-0(
-0)
-b0 *
-0+
-0,
-0-
-b0 .
-b0 /
-b0 0
-b0 2
-03
-04
-b0 5
-06
-07
-08
-09
-b0 :
-b0 ;
-b0 <
-0=
-#5
-1!
-#10
-0!
-#15
-1!
-#20
-0!
-1#
-1$
-b1001010001011 '
-1(
-1)
-b1 *
-#25
-1!
-#30
-0!
-0#
-0$
-b0 '
-0(
-0)
-b0 *
-1+
-1,
-b11 2
-13
-#35
-1!
-#40
-0!
-1#
-1$
-b1 &
-b1000000000001011 '
-1(
-b1 *
-0+
-0,
-b0 2
-03
-17
-18
-b101 <
-1=
-#45
-1!
-#50
-0!
-b10 &
-1+
-1,
-b1 .
-b11 /
-b11 2
-13
-b1 5
-16
-07
-08
-b0 <
-0=
-#55
-1!
-#60
-0!
-";
-
-const TRACE_SAMPLES: &str = "\
-sample rst_n=1
-sample rst_n=1
-sample rst_n=1 issue_valid=1 issue_ready=1 issue_instr=128b issue_accept=1 issue_writeback=1 issue_register_read=1
-sample rst_n=1 register_valid=1 register_ready=1 register_rs_valid=3 commit_valid=1
-sample rst_n=1 issue_valid=1 issue_ready=1 issue_id=1 issue_instr=800b issue_accept=1 issue_register_read=1 result_valid=1 result_ready=1 result_rd=5 result_we=1
-sample rst_n=1 issue_valid=1 issue_ready=1 issue_id=2 issue_instr=800b issue_accept=1 issue_register_read=1 register_valid=1 register_ready=1 register_id=1 register_rs0=3 register_rs_valid=3 commit_valid=1 commit_id=1 commit_kill=1
-";
-
 #[test]
 fn the_samples_of_a_text(rt: HostRuntime) -> Result<(), Fail> {
-    for case in &CASES {
-        let map = map_of(rt.alloc(), case.places, case.others)?;
-        check(
-            &rt,
-            rt.alloc(),
-            case.text,
-            &map,
-            &least_params(),
-            case.samples,
-        )?;
-    }
-    Ok(())
+    let map = map_of(rt.alloc(), &PACKED_PLACES, Spot::Number(0))?;
+    let params = least_params();
+    check(&rt, rt.alloc(), PACKED, &map, &params, PACKED_SAMPLES)
 }
 
 // Values of a variable of 100 bits, of which some are extended by 0, x or z: bits 2 to 4, 0 to 63 and 36 to 99.
@@ -408,8 +211,8 @@ fn check(
     assert!(rt; text.len() < 10_000);
     for len in [10_000, 1, 7] {
         let mut reader = read(alloc, text.as_bytes(), len)?;
-        let said = samples_text(alloc, &mut reader, map, params)?;
-        assert_eq!(rt; said.as_str(), samples, "{len} {text}");
+        let got = samples_text(alloc, &mut reader, map, params)?;
+        assert_eq!(rt; got.as_str(), samples, "{len} {text}");
     }
     Ok(())
 }
@@ -456,7 +259,7 @@ fn write_sample(text: &mut String, sample: &Sample) -> Result<(), AllocError> {
     text.push('\n')
 }
 
-/// A signal's value, and which of its bits aren't known.
+/// The value of a signal, and which of its bits are unknown.
 fn write_bits(text: &mut String, name: &str, bits: Quad) -> Result<(), AllocError> {
     if bits.unknown != 0 {
         write!(text, " {name}={:x}?{:x}", bits.value, bits.unknown)

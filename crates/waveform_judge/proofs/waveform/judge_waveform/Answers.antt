@@ -10,7 +10,7 @@ loop-rest-preserved c =
     let piece = c.split_at.result.0.now in
     let more = c.split_at.result.1.now in
     record {
-      front = (i.front.0 ++ piece, (c.in_ok-feed.ensures.stands c.args.map.now c.args.params.now i.front.0 i.front.1.0, front_more c.min.result i.front.0 piece more c.loop-rest.rest.now c.args.text.now c.split_at.ensures.front c.split_at.ensures.back i.front.1.1));
+      front = (i.front.0 ++ piece, (c.in_ok-feed.ensures.represents c.args.map.now c.args.params.now i.front.0 i.front.1.0, front_more c.min.result i.front.0 piece more c.loop-rest.rest.now c.args.text.now c.split_at.ensures.front c.split_at.ensures.back i.front.1.1));
       room = omega (arith, i.room, c.feed.ensures.size, c.split_at.ensures.front_len, c.split_at.ensures.back_len);
     }
 
