@@ -2,3 +2,4 @@ pub mod Forms
 pub mod Numbers
 pub mod Printed
 pub mod MemoryLines
+pub mod Reports

@@ -1,9 +1,10 @@
 pub mod Report
 pub mod Words
 pub mod Status
-pub mod Run
+pub mod InOrder
 pub mod Verdict
+pub mod Limits
 pub mod Outcome
-pub mod Answers
+pub mod Ending
 pub mod Reading
 pub mod Printing

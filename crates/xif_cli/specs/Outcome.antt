@@ -1,6 +1,6 @@
--- What a command comes to where nothing fails: how it ends and the text that it prints, or its refusal. The steps stand in the order in
--- which refusals are told.
-use Rattle.std.specs.Prelude.{◌==◌, ℕ, Bool, cond, List, length, Option, Some, None, Result, Ok, Err, nat_le, true, false}
+-- What a command means where nothing fails: how it ends and the text that it prints, or its
+-- refusal. The steps stand in the order in which refusals are reported.
+use Rattle.std.specs.Prelude.{◌==◌, ℕ, Bool, if◌then◌else◌, List, length, Option, Some, None, Result, Ok, Err, nat_le, true, false}
 use Rattle.std.specs.FinMap as map
 use Rattle.xif_base.specs.Files.{Files}
 use Rattle.xif_base.specs.declared.outside.Which.{Which}
@@ -18,17 +18,18 @@ use Rattle.xif_job.specs.declared.field.JobFault.TheVariants as job
 use Rattle.xif_job.specs.declared.image.ImageKind.{ImageKind}
 use Rattle.xif_job.specs.declared.image.ImageKind.TheVariants.{Text, Raw}
 use Rattle.xif_job.specs.declared.job.Job.{Job}
-use Rattle.xif_cli.specs.declared.limits.TheConstants.{RAW_LIMIT, JOB_LIMIT, RAW_IMAGE_LIMIT, TEXT_IMAGE_LIMIT, WAVEFORM_LIMIT}
 use Rattle.xif_cli.specs.declared.answer.End.{End}
 use Rattle.xif_cli.specs.declared.answer.End.TheVariants as end
 use Rattle.xif_cli.specs.declared.status.Status.{Status}
 use Rattle.xif_cli.specs.declared.status.Status.TheVariants as status
-use Rattle.xif_cli.specs.Run.{raw_report, step_report}
+use Rattle.xif_cli.specs.InOrder.{raw_report, step_report}
+use Rattle.xif_cli.specs.Limits.{longest_raw, longest_job, longest_image, longest_waveform}
 use Rattle.xif_cli.specs.Verdict.{judged_end, judged_text}
 use Rattle.xif_cli.specs.Words.{Form}
 use Rattle.xif_cli.specs.Words as form
 
--- the bytes of a file that a command reads, by which one it is and by its name; none where it can't be read
+-- the bytes of a file that a command reads, by which one it is and by its name; none where it
+-- can't be read
 abbrev pub Lookup : Type 0
 Lookup = Which → List ℕ → Option (List ℕ)
 
@@ -36,6 +37,7 @@ Lookup = Which → List ℕ → Option (List ℕ)
 abbrev pub found : Files → Lookup
 found files which name = map.get files name
 
+-- the place of each in the order of `Which`
 abbrev pub place_of : Which → ℕ
 place_of which.Job = 0
 place_of which.Image = 1
@@ -44,9 +46,13 @@ place_of which.Trace = 3
 place_of which.Log = 4
 place_of which.Output = 5
 
+-- two are the same
+abbrev pub is_same : Which → Which → Bool
+is_same one other = place_of one == place_of other
+
 -- the files where one that a command reads can't be read
 abbrev pub without : Which → Files → Lookup
-without lost files which name = cond (place_of lost == place_of which) None (map.get files name)
+without lost files which name = if is_same lost which then None else (map.get files name)
 
 -- what follows is done only where nothing was refused
 infixl 10 ◌>>=◌
@@ -57,7 +63,8 @@ abbrev pub ◌>>=◌ : {A B : Type 0} → Result A Status → (A → Result B St
 -- a file that is read whole, where it is there and within its limit
 abbrev pub file_in : Which → ℕ → Option (List ℕ) → Result (List ℕ) Status
 file_in which limit None = Err (status.ReadFault which)
-file_in which limit (Some bytes) = cond (nat_le (length bytes) limit) (Ok bytes) (Err (status.TooBig which))
+file_in which limit (Some bytes) =
+    if nat_le (length bytes) limit then (Ok bytes) else (Err (status.TooBig which))
 
 -- the status of a job's fault, and of an image's
 abbrev pub job_status : JobFault → Status
@@ -82,13 +89,8 @@ or_status f (Err e) = Err (f e)
 -- the job in the file of a name, where it may have to name its image
 abbrev pub job_in : Bool → List ℕ → Lookup → Result Job Status
 job_in needs_image name find = do
-  bytes ← file_in which.Job JOB_LIMIT (find which.Job name)
+  bytes ← file_in which.Job longest_job (find which.Job name)
   or_status job_status (read_of needs_image bytes)
-
--- the longest file of an image, in bytes
-abbrev pub image_limit : ImageKind → ℕ
-image_limit Text = TEXT_IMAGE_LIMIT
-image_limit Raw = RAW_IMAGE_LIMIT
 
 -- the image that the bytes of a file are, by their kind
 abbrev pub image_by : ImageKind → Job → List ℕ → Result Placement ImageFault
@@ -98,7 +100,7 @@ image_by Raw job bytes = raw_image job.image.load job.base job.size bytes
 -- the image of a job
 abbrev pub image_of : Job → Lookup → Result Placement Status
 image_of job find = do
-  bytes ← file_in which.Image (image_limit job.image.kind) (find which.Image job.image.file)
+  bytes ← file_in which.Image (longest_image job.image.kind) (find which.Image job.image.file)
   or_status image_status (image_by job.image.kind job bytes)
 
 -- how a command ends that isn't refused, and the text that it prints
@@ -113,7 +115,7 @@ end_status end.Illegal = status.Illegal
 
 abbrev pub raw_outcome : List ℕ → ℕ → Lookup → Result Answer Status
 raw_outcome image count find = do
-  bytes ← file_in which.Image RAW_LIMIT (find which.Image image)
+  bytes ← file_in which.Image longest_raw (find which.Image image)
   Ok (record { end = end.Done; text = raw_report bytes count })
 
 abbrev pub step_outcome : List ℕ → Lookup → Result Answer Status
@@ -122,15 +124,24 @@ step_outcome name find = do
   image ← image_of job find
   Ok (record { end = end.Done; text = step_report job image })
 
-abbrev pub judge_outcome : List ℕ → List ℕ → Lookup → Result Answer Status
-judge_outcome name waveform find = do
-  job ← job_in false name find
-  bytes ← file_in which.Waveform WAVEFORM_LIMIT (find which.Waveform waveform)
+-- the verdict on a waveform by a job
+abbrev pub verdict_in : Job → List ℕ → Lookup → Result Answer Status
+verdict_in job waveform find = do
+  bytes ← file_in which.Waveform longest_waveform (find which.Waveform waveform)
   judged ← or_status judge_status (judged_of job.map job.params bytes)
   Ok (record { end = judged_end judged; text = judged_text judged })
 
-abbrev pub outcome_of : Form → Lookup → Result Answer Status
-outcome_of (form.Raw image count) find = raw_outcome image count find
-outcome_of (form.Step job) find = step_outcome job find
-outcome_of (form.Judge job waveform) find = judge_outcome job waveform find
-outcome_of _ find = Err status.Unbuilt
+abbrev pub judge_outcome : List ℕ → List ℕ → Lookup → Result Answer Status
+judge_outcome name waveform find = do
+  job ← job_in false name find
+  verdict_in job waveform find
+
+-- what a form of the command line means; those that aren't built yet are refused
+abbrev pub command_outcome : Form → Lookup → Result Answer Status
+command_outcome (form.Raw image count) find = raw_outcome image count find
+command_outcome (form.Step job) find = step_outcome job find
+command_outcome (form.Run job) find = Err status.Unbuilt
+command_outcome (form.Judge job waveform) find = judge_outcome job waveform find
+command_outcome (form.Gen seed count) find = Err status.Unbuilt
+command_outcome (form.Harts job) find = Err status.Unbuilt
+command_outcome (form.Replay job waveform) find = Err status.Unbuilt

@@ -52,7 +52,8 @@ register_lines registers = flat_map (λ r. register_line r.0 r.1) (enumerate_fro
 -- the line of an accumulator of a unit; one that is 0 has none
 abbrev pub accumulator_line : ℕ → ℕ → ℕ → List ℕ
 accumulator_line unit number value =
-    if value == 0 then [] else codes "u" ++ decimal unit ++ codes ".a" ++ decimal number ++ codes "=" ++ hex_double value ++ codes "\n"
+    if value == 0 then [] else
+    codes "u" ++ decimal unit ++ codes ".a" ++ decimal number ++ codes "=" ++ hex_double value ++ codes "\n"
 
 -- the lines of a unit's accumulators
 abbrev pub unit_lines : ℕ → List ℕ → List ℕ
@@ -63,8 +64,8 @@ abbrev pub accumulator_lines : List (List ℕ) → List ℕ
 accumulator_lines units = flat_map (λ u. unit_lines u.0 u.1) (enumerate_from 0 units)
 
 -- word i of these bytes, the lowest byte first; bytes past their end count as 0
-abbrev pub word_of : List ℕ → ℕ → ℕ
-word_of bytes i = from_le_bytes w32 (take 4 (drop (4 * i) bytes))
+abbrev pub memory_word : List ℕ → ℕ → ℕ
+memory_word bytes i = from_le_bytes w32 (take 4 (drop (4 * i) bytes))
 
 -- the line of a word of memory; one that is as it was before has none
 abbrev pub memory_line : ℕ → ℕ → ℕ → List ℕ
@@ -74,9 +75,12 @@ memory_line address before after =
 -- the lines of the words of a memory, from its base on
 abbrev pub memory_lines : List ℕ → Region → List ℕ
 memory_lines before after =
-    flat_map (λ i. memory_line (after.base + 4 * i) (word_of before i) (word_of after.bytes i)) (range_with_len 0 ((length after.bytes + 3) / 4))
+    flat_map (λ i. memory_line (after.base + 4 * i) (memory_word before i) (memory_word after.bytes i))
+    (range_with_len 0 ((length after.bytes + 3) / 4))
 
--- the report of a run that ended by this stop, or else by its budget, after so many retirements, in this state; before are the bytes of the memory at its start
+-- the report of a run that ended by this stop, or else by its budget, after so many retirements, in
+-- this state; before are the bytes of the memory at its start
 abbrev pub report_of : Option StopCause → ℕ → State → List ℕ → List ℕ
 report_of stop retired s before =
-    outcome_text stop s.pc retired ++ codes "\n" ++ register_lines s.registers ++ accumulator_lines s.units ++ memory_lines before s.memory
+    outcome_text stop s.pc retired ++ codes "\n"
+    ++ register_lines s.registers ++ accumulator_lines s.units ++ memory_lines before s.memory

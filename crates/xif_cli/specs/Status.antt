@@ -19,28 +19,31 @@ use Rattle.xif_cli.specs.declared.status.Status.{Status}
 use Rattle.xif_cli.specs.declared.status.Status.TheVariants.{Done, Illegal, Usage, ReadFault, WriteFault, Job, Image, Vcd, Map, TooBig, NoMemory, Unbuilt}
 use lib.Chars.{codes}
 
-abbrev pub number_of : Status → ℕ
-number_of Done = 0
-number_of Illegal = 1
-number_of Usage = 2
-number_of (ReadFault which) = 3
-number_of (WriteFault which) = 4
-number_of (Job fault) = 5
-number_of (Image fault) = 6
-number_of (Vcd fault) = 7
-number_of (Map fault) = 8
-number_of (TooBig which) = 9
-number_of NoMemory = 10
-number_of Unbuilt = 11
+-- the number of a status, which is the exit status of the program
+abbrev pub status_number : Status → ℕ
+status_number Done = 0
+status_number Illegal = 1
+status_number Usage = 2
+status_number (ReadFault which) = 3
+status_number (WriteFault which) = 4
+status_number (Job fault) = 5
+status_number (Image fault) = 6
+status_number (Vcd fault) = 7
+status_number (Map fault) = 8
+status_number (TooBig which) = 9
+status_number NoMemory = 10
+status_number Unbuilt = 11
 
-abbrev pub word_of : Which → List ℕ
-word_of which.Job = codes "job"
-word_of which.Image = codes "image"
-word_of which.Waveform = codes "waveform"
-word_of which.Trace = codes "trace"
-word_of which.Log = codes "log"
-word_of which.Output = codes "output"
+-- the word for a file or a target
+abbrev pub which_word : Which → List ℕ
+which_word which.Job = codes "job"
+which_word which.Image = codes "image"
+which_word which.Waveform = codes "waveform"
+which_word which.Trace = codes "trace"
+which_word which.Log = codes "log"
+which_word which.Output = codes "output"
 
+-- the word for what is wrong with a set of units
 abbrev pub cause_word : SetCause → List ℕ
 cause_word TooManyUnits = codes "units"
 cause_word TooManyEntries = codes "entries"
@@ -90,12 +93,12 @@ abbrev pub fault_line : Status → List ℕ
 fault_line Done = []
 fault_line Illegal = []
 fault_line Usage = codes "usage"
-fault_line (ReadFault which) = codes "read " ++ word_of which
-fault_line (WriteFault which) = codes "write " ++ word_of which
+fault_line (ReadFault which) = codes "read " ++ which_word which
+fault_line (WriteFault which) = codes "write " ++ which_word which
 fault_line (Job fault) = codes "job " ++ job_words fault
 fault_line (Image fault) = codes "image " ++ image_words fault
 fault_line (Vcd fault) = codes "vcd " ++ vcd_word fault.cause ++ codes " at=" ++ decimal fault.at
 fault_line (Map fault) = codes "map " ++ map_words fault
-fault_line (TooBig which) = codes "too-big " ++ word_of which
+fault_line (TooBig which) = codes "too-big " ++ which_word which
 fault_line NoMemory = codes "no memory"
 fault_line Unbuilt = codes "unbuilt"

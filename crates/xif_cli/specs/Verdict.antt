@@ -12,12 +12,14 @@ use Rattle.xif_cli.specs.declared.answer.End.{End}
 use Rattle.xif_cli.specs.declared.answer.End.TheVariants.{Done, Illegal}
 use lib.Chars.{codes}
 
+-- the word for a channel
 abbrev pub channel_word : Channel → List ℕ
 channel_word channel.Issue = codes "issue"
 channel_word channel.Register = codes "register"
 channel_word channel.Commit = codes "commit"
 channel_word channel.Result = codes "result"
 
+-- the name of a rule
 abbrev pub rule_word : Rule → List ℕ
 rule_word K1 = codes "K1"
 rule_word K2 = codes "K2"
@@ -57,6 +59,7 @@ verdict_line v =
 abbrev pub partial_line : ℕ → List ℕ
 partial_line cycles = codes "partial cycles=" ++ decimal cycles ++ codes "\n"
 
+-- what is printed of so many cycles, of which the first fault is this one, if there is one
 abbrev pub text_by : ℕ → Option Verdict → List ℕ
 text_by cycles None = partial_line cycles
 text_by cycles (Some verdict) = verdict_line verdict
@@ -65,10 +68,11 @@ text_by cycles (Some verdict) = verdict_line verdict
 abbrev pub judged_text : Judged → List ℕ
 judged_text judged = text_by judged.cycles judged.verdict
 
+-- how a command ends that found this first fault, or none
 abbrev pub end_by : Option Verdict → End
 end_by None = Done
 end_by (Some verdict) = Illegal
 
--- and how the command ends
+-- how the command ends
 abbrev pub judged_end : Judged → End
 judged_end judged = end_by judged.verdict

@@ -50,7 +50,7 @@ pub record IsCommand (words : List (List ℕ)) (form : Form) : Type 0 where
   pub in_range : IsInRange form
   pub spelled : words ≡ words_of form
 
--- the form that a command stands for
+-- the form that a command is of
 abbrev pub form_of : Command → Form
 form_of (command.Raw image count) = Raw image.now count
 form_of (command.Step job) = Step job.now

@@ -1,4 +1,4 @@
-//! What a command comes to that isn't refused.
+//! How a command ends that isn't refused, and what it prints.
 ghost use Rattle.std.specs.Prelude.{◌≡◌};
 ghost use Rattle.xif_cli.specs.Outcome.{end_status};
 
@@ -14,6 +14,7 @@ pub enum End {
 }
 
 impl End {
+    /// The status of a command that ends so.
     pub fn status(self) -> Status
         ensures { result ≡ end_status self }
     {

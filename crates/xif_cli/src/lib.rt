@@ -1,26 +1,29 @@
-//! The command line: what its words ask for, and what comes of it.
+//! The command line: what its words ask for, and how a call of the program ends.
 //!
-//! The layer above may use `xif`, which does all that the program does, and `Status`, what it ended
-//! with. The definitions stand in `specs/`: `Words` (the forms of the command line), `Outcome` (what a
-//! command comes to where nothing fails), `Run` and `Report` (what the in-order commands run and print), `Verdict` (what `judge` prints),
-//! `Status` (numbers and fault lines) and `Answers` (what the program answers, and what stands
-//! afterwards).
+//! The layer above may use `xif`, which does all that the program does, `Status`, what it ended
+//! with, and the limits of the files. The definitions are in `specs/`: `Words` (the forms of the
+//! command line), `Limits` (the longest files), `Outcome` (what a command means where nothing
+//! fails), `InOrder` and `Report` (what the in-order commands run and print), `Verdict` (what
+//! `judge` prints), `Status` (numbers and fault lines) and `Ending` (how a call can end, and why).
+//! `Reading` and `Printing` are internal.
 #![tactic(auto)]
 
 mod answer;
+mod inorder;
 mod judge;
+mod laws;
 mod limits;
 mod print;
 mod program;
 mod raw;
 mod read;
 mod report;
-mod run;
 mod status;
 mod step;
 mod verdict;
 mod words;
 
+pub use laws::{raw_law, step_law};
 pub use limits::{JOB_LIMIT, RAW_IMAGE_LIMIT, RAW_LIMIT, TEXT_IMAGE_LIMIT, WAVEFORM_LIMIT};
 pub use program::xif;
 pub use status::Status;

@@ -1,11 +1,10 @@
 //! The files that a command reads.
 ghost use Rattle.std.specs.Prelude.{◌≡◌, ◌≤◌, ◌⊎◌, vec_len, IsTrue, IfErr, IfOk};
-ghost use Rattle.xif_base.specs.Files.{Files};
 ghost use Rattle.xif_base.specs.Params.{IsInRange};
 ghost use Rattle.coproc_config.specs.Check.{IsLawful};
 ghost use Rattle.xif_job.specs.Ranges.{IsLawfulMemory};
-ghost use Rattle.xif_cli.specs.Answers.{IsFaulted};
-ghost use Rattle.xif_cli.specs.Outcome.{file_in, job_in, image_of, image_by, image_limit};
+ghost use Rattle.xif_cli.specs.Limits.{longest_image};
+ghost use Rattle.xif_cli.specs.Outcome.{file_in, job_in, image_of, image_by};
 ghost use Rattle.xif_cli.specs.Reading.{Ends, seen, can_refuse_file, can_refuse_job, can_refuse_image};
 
 use crate::limits::{JOB_LIMIT, RAW_IMAGE_LIMIT, TEXT_IMAGE_LIMIT};
@@ -15,7 +14,7 @@ use xif_base::{ReadFail, Shelf, Which, read_all};
 use xif_image::{Image, ImageFault};
 use xif_job::{ImageKind, Job};
 
-/// Reads a file whole.
+/// Reads a file whole. `limit` is its greatest length in bytes.
 pub(crate) fn read_file<S: Shelf>(
     alloc: Global,
     which: Which,
@@ -23,18 +22,10 @@ pub(crate) fn read_file<S: Shelf>(
     limit: u64,
     shelf: &mut S,
 ) -> Result<Vec<u8>, Status>
-    ensures told { (m : Files) → S.files shelf.old ≡ Some m →
-        Ends (IsFaulted (S.faultless shelf.old) (S.fetch_faults shelf.old) (S.fetch_faults shelf.new)) m
+    ensures ends { Ends S.files S.fetch_faults S.write_faults S.faultless shelf.old shelf.new
         (λ find. file_in which limit (find which name.now)) (seen (λ v. v.items) result) }
-    ensures untold { S.files shelf.old ≡ None → result ≡ Err (Status.ReadFault which) →
-        IsFaulted (S.faultless shelf.old) (S.fetch_faults shelf.old) (S.fetch_faults shelf.new) }
     ensures refusal { IfErr result (λ status. IsTrue (can_refuse_file which status)) }
     ensures within { IfOk result (λ v. vec_len v ≤ limit) }
-    ensures files { S.files shelf.new ≡ S.files shelf.old }
-    ensures writes { S.write_faults shelf.new ≡ S.write_faults shelf.old }
-    ensures count { S.fetch_faults shelf.old ≤ S.fetch_faults shelf.new }
-    ensures stays_faultless { S.faultless shelf.old → S.faultless shelf.new }
-    ensures no_fault { S.faultless shelf.old → S.fetch_faults shelf.new ≡ S.fetch_faults shelf.old }
 {
     match read_all(alloc, shelf, name, limit) {
         Ok(bytes) => Ok(bytes),
@@ -51,20 +42,12 @@ pub(crate) fn read_job<S: Shelf>(
     needs_image: bool,
     shelf: &mut S,
 ) -> Result<Job, Status>
-    ensures told { (m : Files) → S.files shelf.old ≡ Some m →
-        Ends (IsFaulted (S.faultless shelf.old) (S.fetch_faults shelf.old) (S.fetch_faults shelf.new)) m
+    ensures ends { Ends S.files S.fetch_faults S.write_faults S.faultless shelf.old shelf.new
         (job_in needs_image name.now) (seen (λ job. job) result) }
-    ensures untold { S.files shelf.old ≡ None → (w : Which) → result ≡ Err (Status.ReadFault w) →
-        IsFaulted (S.faultless shelf.old) (S.fetch_faults shelf.old) (S.fetch_faults shelf.new) }
     ensures refusal { IfErr result (λ status. IsTrue (can_refuse_job status)) }
     ensures in_range { IfOk result (λ job. IsInRange job.params) }
     ensures lawful { IfOk result (λ job. IsLawful job.set) }
     ensures memory { IfOk result (λ job. IsLawfulMemory job.base job.size) }
-    ensures files { S.files shelf.new ≡ S.files shelf.old }
-    ensures writes { S.write_faults shelf.new ≡ S.write_faults shelf.old }
-    ensures count { S.fetch_faults shelf.old ≤ S.fetch_faults shelf.new }
-    ensures stays_faultless { S.faultless shelf.old → S.faultless shelf.new }
-    ensures no_fault { S.faultless shelf.old → S.fetch_faults shelf.new ≡ S.fetch_faults shelf.old }
 {
     let bytes = read_file(alloc, Which::Job, name, JOB_LIMIT, shelf)?;
     Ok(Job::read(alloc, &bytes, needs_image)?)
@@ -73,18 +56,11 @@ pub(crate) fn read_job<S: Shelf>(
 /// Reads the image of a job.
 pub(crate) fn read_image<S: Shelf>(alloc: Global, job: &Job, shelf: &mut S) -> Result<Image, Status>
     requires { IsLawfulMemory job.now.base job.now.size }
-    ensures told { (m : Files) → S.files shelf.old ≡ Some m →
-        Ends (IsFaulted (S.faultless shelf.old) (S.fetch_faults shelf.old) (S.fetch_faults shelf.new)) m
+    ensures ends { Ends S.files S.fetch_faults S.write_faults S.faultless shelf.old shelf.new
         (image_of job.now) (seen (λ image. image) result) }
-    ensures untold { S.files shelf.old ≡ None → (w : Which) → result ≡ Err (Status.ReadFault w) →
-        IsFaulted (S.faultless shelf.old) (S.fetch_faults shelf.old) (S.fetch_faults shelf.new) }
     ensures refusal { IfErr result (λ status. IsTrue (can_refuse_image status)) }
-    ensures memory { IfOk result (λ image. (image.base ≡ job.now.base) × (image.size ≡ job.now.size)) }
-    ensures files { S.files shelf.new ≡ S.files shelf.old }
-    ensures writes { S.write_faults shelf.new ≡ S.write_faults shelf.old }
-    ensures count { S.fetch_faults shelf.old ≤ S.fetch_faults shelf.new }
-    ensures stays_faultless { S.faultless shelf.old → S.faultless shelf.new }
-    ensures no_fault { S.faultless shelf.old → S.fetch_faults shelf.new ≡ S.fetch_faults shelf.old }
+    ensures memory { IfOk result (λ image.
+        (image.base ≡ job.now.base) × (image.size ≡ job.now.size)) }
 {
     let limit = image_limit(job.image.kind);
     let bytes = read_file(alloc, Which::Image, job.image.file.as_str(), limit, shelf)?;
@@ -93,7 +69,7 @@ pub(crate) fn read_image<S: Shelf>(alloc: Global, job: &Job, shelf: &mut S) -> R
 
 // The longest file of an image, in bytes.
 fn image_limit(kind: ImageKind) -> u64
-    ensures { result ≡ image_limit kind }
+    ensures { result ≡ longest_image kind }
 {
     match kind {
         ImageKind::Text => TEXT_IMAGE_LIMIT,
@@ -104,10 +80,12 @@ fn image_limit(kind: ImageKind) -> u64
 // The image that the bytes of its file are.
 fn image_of_bytes(alloc: Global, job: &Job, bytes: &[u8]) -> Result<Image, ImageFault>
     requires { IsLawfulMemory job.now.base job.now.size }
-    ensures image { IfOk result (λ image. image_by job.now.image.kind job.now bytes.now ≡ Ok image) }
-    ensures fault { IfErr result (λ fault.
-        (fault ≡ ImageFault.NoMemory) ⊎ (image_by job.now.image.kind job.now bytes.now ≡ Err fault)) }
-    ensures memory { IfOk result (λ image. (image.base ≡ job.now.base) × (image.size ≡ job.now.size)) }
+    ensures image { IfOk result (λ image.
+        image_by job.now.image.kind job.now bytes.now ≡ Ok image) }
+    ensures fault { IfErr result (λ fault. (fault ≡ ImageFault.NoMemory)
+        ⊎ (image_by job.now.image.kind job.now bytes.now ≡ Err fault)) }
+    ensures memory { IfOk result (λ image.
+        (image.base ≡ job.now.base) × (image.size ≡ job.now.size)) }
 {
     match job.image.kind {
         ImageKind::Text => Image::text(alloc, bytes, job.base, job.size),

@@ -1,7 +1,8 @@
 //! What the in-order commands print.
-ghost use Rattle.std.specs.Prelude.{◌≡◌, ◌<◌, ◌*◌, ◌+◌, ◌^◌, ◌++◌, OnOk, IfOk, Some, slice_index};
+ghost use Rattle.std.specs.Prelude.{◌≡◌, ◌<◌, ◌*◌, ◌+◌, ◌^◌, OnOk, IfOk, Some, slice_index};
 ghost use Rattle.std.specs.String.{string_bytes};
-ghost use Rattle.xif_cli.specs.Report.{hex_word, hex_double, end_word, outcome_text, register_line, register_lines, accumulator_line, unit_lines, accumulator_lines, word_of, memory_line, memory_lines, report_of};
+ghost use Rattle.xif_cli.specs.Printing.{Appends};
+ghost use Rattle.xif_cli.specs.Report.{hex_word, hex_double, end_word, outcome_text, register_line, register_lines, accumulator_line, unit_lines, accumulator_lines, memory_word, memory_line, memory_lines, report_of};
 
 use coproc_config::UnitState;
 use inorder_machine::{Machine, StopCause};
@@ -10,7 +11,8 @@ use std::fmt;
 use xif_image::Memory;
 
 /// What is printed of a run that ended by `stop`, or else by its budget, after `retired`
-/// retirements: `machine` is in its last state, and `before` has the bytes of its memory at the start.
+/// retirements: `machine` is in its last state, and `before` has the bytes of its memory at the
+/// start.
 pub(crate) fn report(
     alloc: Global,
     stop: Option<StopCause>,
@@ -18,7 +20,8 @@ pub(crate) fn report(
     machine: &Machine,
     before: &[u8],
 ) -> Result<String, AllocError>
-    ensures { IfOk result (λ text. string_bytes text ≡ report_of stop retired machine.now before.now) }
+    ensures { IfOk result (λ text.
+        string_bytes text ≡ report_of stop retired machine.now before.now) }
 {
     let mut text = String::new(alloc);
     push_outcome(&mut text, stop, machine.pc(), retired)?;
@@ -36,7 +39,7 @@ fn push_outcome(
     pc: u32,
     retired: u64,
 ) -> Result<(), AllocError>
-    ensures { OnOk result (string_bytes text.new ≡ string_bytes text.old ++ outcome_text stop pc retired) }
+    ensures { OnOk result (Appends text.old text.new (outcome_text stop pc retired)) }
 {
     let word = end_word(stop);
     write!(text, "end={word} pc={} retired={retired}", HexWord(pc))
@@ -62,7 +65,7 @@ fn end_word(stop: Option<StopCause>) -> &'static str
 
 // Appends the lines of the registers.
 fn push_registers(text: &mut String, registers: &[u32]) -> Result<(), AllocError>
-    ensures { OnOk result (string_bytes text.new ≡ string_bytes text.old ++ register_lines registers.now) }
+    ensures { OnOk result (Appends text.old text.new (register_lines registers.now)) }
 {
     if let [_zero, others @ ..] = registers {
         for (index, value) in others.iter().enumerate() {
@@ -74,7 +77,7 @@ fn push_registers(text: &mut String, registers: &[u32]) -> Result<(), AllocError
 
 // Appends the line of one register.
 fn push_register(text: &mut String, number: usize, value: u32) -> Result<(), AllocError>
-    ensures { OnOk result (string_bytes text.new ≡ string_bytes text.old ++ register_line number value) }
+    ensures { OnOk result (Appends text.old text.new (register_line number value)) }
 {
     if value == 0 {
         return Ok(());
@@ -84,7 +87,7 @@ fn push_register(text: &mut String, number: usize, value: u32) -> Result<(), All
 
 // Appends the lines of the accumulators of all units.
 fn push_accumulators(text: &mut String, state: &UnitState) -> Result<(), AllocError>
-    ensures { OnOk result (string_bytes text.new ≡ string_bytes text.old ++ accumulator_lines state.now) }
+    ensures { OnOk result (Appends text.old text.new (accumulator_lines state.now)) }
 {
     for unit in 0..state.len() {
         push_unit(text, unit, state.unit(unit))?;
@@ -94,7 +97,7 @@ fn push_accumulators(text: &mut String, state: &UnitState) -> Result<(), AllocEr
 
 // Appends the lines of a unit's accumulators.
 fn push_unit(text: &mut String, unit: usize, accumulators: &[u64]) -> Result<(), AllocError>
-    ensures { OnOk result (string_bytes text.new ≡ string_bytes text.old ++ unit_lines unit accumulators.now) }
+    ensures { OnOk result (Appends text.old text.new (unit_lines unit accumulators.now)) }
 {
     for (number, value) in accumulators.iter().enumerate() {
         push_accumulator(text, unit, number, *value)?;
@@ -109,7 +112,7 @@ fn push_accumulator(
     number: usize,
     value: u64,
 ) -> Result<(), AllocError>
-    ensures { OnOk result (string_bytes text.new ≡ string_bytes text.old ++ accumulator_line unit number value) }
+    ensures { OnOk result (Appends text.old text.new (accumulator_line unit number value)) }
 {
     if value == 0 {
         return Ok(());
@@ -119,19 +122,24 @@ fn push_accumulator(
 
 // Appends the lines of the words of memory that changed.
 fn push_memory(text: &mut String, before: &[u8], memory: &Memory) -> Result<(), AllocError>
-    ensures { OnOk result (string_bytes text.new ≡ string_bytes text.old ++ memory_lines before.now memory.now) }
+    ensures { OnOk result (Appends text.old text.new (memory_lines before.now memory.now)) }
 {
     let after = memory.bytes();
     for index in 0..after.len().div_ceil(4) {
         let address = memory.base() + 4 * index as u32;
-        push_word(text, address, word_of(before, index), word_of(after, index))?;
+        push_word(
+            text,
+            address,
+            memory_word(before, index),
+            memory_word(after, index),
+        )?;
     }
     Ok(())
 }
 
 // Appends the line of one word of memory.
 fn push_word(text: &mut String, address: u32, before: u32, after: u32) -> Result<(), AllocError>
-    ensures { OnOk result (string_bytes text.new ≡ string_bytes text.old ++ memory_line address before after) }
+    ensures { OnOk result (Appends text.old text.new (memory_line address before after)) }
 {
     if before == after {
         return Ok(());
@@ -140,9 +148,9 @@ fn push_word(text: &mut String, address: u32, before: u32, after: u32) -> Result
 }
 
 // A word of these bytes, by its index; bytes past their end count as 0.
-fn word_of(bytes: &[u8], index: usize) -> u32
+fn memory_word(bytes: &[u8], index: usize) -> u32
     requires { 4 * index + 4 < 2 ^ 64 }
-    ensures { result ≡ word_of bytes.now index }
+    ensures { result ≡ memory_word bytes.now index }
 {
     let at = 4 * index;
     u32::from_le_bytes([

@@ -1,6 +1,6 @@
 //! What a command ended with.
 ghost use Rattle.std.specs.Prelude.{◌≡◌, ◌≢◌, ◌↔◌, IsTrue};
-ghost use Rattle.xif_cli.specs.Status.{number_of, word_of, cause_word, vcd_word};
+ghost use Rattle.xif_cli.specs.Status.{status_number, which_word, cause_word, vcd_word};
 
 use coproc_config::SetCause;
 use std::fmt;
@@ -43,7 +43,7 @@ pub enum Status {
 impl Status {
     /// The exit status.
     pub fn number(&self) -> u8
-        ensures { result ≡ number_of self.now }
+        ensures { result ≡ status_number self.now }
     {
         match self {
             Status::Done => 0,
@@ -135,13 +135,13 @@ impl fmt::Display for Status {
         match self {
             Status::Done | Status::Illegal => Ok(()),
             Status::Usage => f.write_str("usage"),
-            Status::ReadFault(which) => write!(f, "read {}", word_of(*which)),
-            Status::WriteFault(which) => write!(f, "write {}", word_of(*which)),
+            Status::ReadFault(which) => write!(f, "read {}", which_word(*which)),
+            Status::WriteFault(which) => write!(f, "write {}", which_word(*which)),
             Status::Job(fault) => write!(f, "job {}", JobWords(*fault)),
             Status::Image(fault) => write!(f, "image {}", ImageWords(*fault)),
             Status::Vcd(fault) => write!(f, "vcd {} at={}", vcd_word(fault.cause), fault.at),
             Status::Map(fault) => write!(f, "map {}", MapWords(*fault)),
-            Status::TooBig(which) => write!(f, "too-big {}", word_of(*which)),
+            Status::TooBig(which) => write!(f, "too-big {}", which_word(*which)),
             Status::NoMemory => f.write_str("no memory"),
             Status::Unbuilt => f.write_str("unbuilt"),
         }
@@ -149,8 +149,8 @@ impl fmt::Display for Status {
 }
 
 // The word for a file or target in fault lines.
-fn word_of(which: Which) -> &'static str
-    ensures { result.now ≡ word_of which }
+fn which_word(which: Which) -> &'static str
+    ensures { result.now ≡ which_word which }
 {
     match which {
         Which::Job => "job",

@@ -16,18 +16,21 @@ pub(crate) enum Command<'a> {
     Run { job: &'a str },
     /// `judge JOB WAVEFORM`: judge the waveform.
     Judge { job: &'a str, waveform: &'a str },
-    /// `gen SEED COUNT`: make a program of COUNT instructions, and simulate it.
+    /// `gen SEED COUNT`: simulate a program that goes COUNT times round a loop, under a script of
+    /// delays drawn from SEED.
     Gen { seed: u32, count: u32 },
     /// `harts JOB`: simulate a job of several harts.
     Harts { job: &'a str },
-    /// `replay JOB WAVEFORM`: drive the coprocessor as the waveform does.
+    /// `replay JOB WAVEFORM`: say whether the coprocessor of a waveform answered as the job's
+    /// tables do.
     Replay { job: &'a str, waveform: &'a str },
 }
 
-/// What the words ask for; none where they are no form of the command line.
+/// What the words ask for; `None` if and only if they are no form of the command line.
 pub(crate) fn parse_command(words: &[String]) -> Option<Command<'_>>
     ensures found { IfSome result (λ c. IsCommand (map string_bytes words.now) (form_of c)) }
-    ensures only { (form : Form) → IsCommand (map string_bytes words.now) form → option_map form_of result ≡ Some form }
+    ensures only { (form : Form) → IsCommand (map string_bytes words.now) form →
+        option_map form_of result ≡ Some form }
 {
     match words {
         [name, first] => parse_two(name.as_str(), first.as_str()),
@@ -39,7 +42,8 @@ pub(crate) fn parse_command(words: &[String]) -> Option<Command<'_>>
 // The forms of two words.
 fn parse_two<'a>(name: &str, first: &'a str) -> Option<Command<'a>>
     ensures found { IfSome result (λ c. IsCommand (name.now ∷ first.now ∷ []) (form_of c)) }
-    ensures only { (form : Form) → IsCommand (name.now ∷ first.now ∷ []) form → option_map form_of result ≡ Some form }
+    ensures only { (form : Form) → IsCommand (name.now ∷ first.now ∷ []) form →
+        option_map form_of result ≡ Some form }
 {
     match name {
         "step" => Some(Command::Step { job: first }),
@@ -51,8 +55,10 @@ fn parse_two<'a>(name: &str, first: &'a str) -> Option<Command<'a>>
 
 // The forms of three words.
 fn parse_three<'a>(name: &str, first: &'a str, second: &'a str) -> Option<Command<'a>>
-    ensures found { IfSome result (λ c. IsCommand (name.now ∷ first.now ∷ second.now ∷ []) (form_of c)) }
-    ensures only { (form : Form) → IsCommand (name.now ∷ first.now ∷ second.now ∷ []) form → option_map form_of result ≡ Some form }
+    ensures found { IfSome result (λ c.
+        IsCommand (name.now ∷ first.now ∷ second.now ∷ []) (form_of c)) }
+    ensures only { (form : Form) → IsCommand (name.now ∷ first.now ∷ second.now ∷ []) form →
+        option_map form_of result ≡ Some form }
 {
     match name {
         "raw" => {

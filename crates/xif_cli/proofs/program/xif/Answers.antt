@@ -9,17 +9,18 @@ told_or_not : {A : Type 0} (files : Option A) → (files ≡ None) ⊎ ((m : A) 
 told_or_not None = inl refl
 told_or_not (Some m) = inr (m, refl)
 
-pub returns-in-Err-clause-read_fault : goal.returns-in-Err-clause-read_fault
-returns-in-Err-clause-read_fault g c = λ w is.
+pub returns-in-Err-clause-read_fault_has_cause : goal.returns-in-Err-clause-read_fault_has_cause
+returns-in-Err-clause-read_fault_has_cause g c = λ w is.
+    let same : (let r : Result Answer Status = Err c.in-Err.status in r) ≡ Err (ReadFault w) = cc in
     elim (told_or_not (g.S.Shelf.files c.args.shelf.now)) [
-      | inl none ↦ inl (c.in-Err.ensures.untold none w (cc))
-      | inr told ↦ elim ((c.in-Err.ensures.told told.0 told.1).outcome) [
+      | inl none ↦ inl (c.in-Err.ensures.ends.unreported none w same)
+      | inr told ↦ elim (c.in-Err.ensures.ends.outcome told.0 told.1) [
         | inl meant ↦ inr (told.0, (told.1, (form_of c.in-Some.command, (c.in-Some.ensures.found, meant))))
         | inr stop ↦ elim stop [ inl lacks ↦ absurd (cc) | inr faulted ↦ inl faulted.0 ]
       ]
     ]
 
-pub returns-in-Err-clause-read_before : goal.returns-in-Err-clause-read_before
-returns-in-Err-clause-read_before g c = λ w is m told.
+pub returns-in-Err-clause-earlier_files_are_lawful : goal.returns-in-Err-clause-earlier_files_are_lawful
+returns-in-Err-clause-earlier_files_are_lawful g c = λ w is m told.
     let same : (let r : Result Answer Status = Err c.in-Err.status in r) ≡ Err (ReadFault w) = cc in
-    (form_of c.in-Some.command, (c.in-Some.ensures.found, (c.in-Err.ensures.told m told).before w same))
+    (form_of c.in-Some.command, (c.in-Some.ensures.found, c.in-Err.ensures.ends.before m told w same))

@@ -6,7 +6,7 @@ ghost use Rattle.coproc_config.specs.Check.{IsLawful};
 ghost use Rattle.coproc_config.specs.State.{IsStateOf};
 ghost use Rattle.inorder_machine.specs.Machine.{Extension};
 ghost use Rattle.xif_job.specs.Ranges.{IsLawfulMemory};
-ghost use Rattle.xif_cli.specs.Run.{raw_start, step_start, run_report};
+ghost use Rattle.xif_cli.specs.InOrder.{raw_start, step_start, run_report};
 
 use crate::report::report;
 use coproc_config::{Set, UnitState};
@@ -48,7 +48,7 @@ pub(crate) fn step_machine(alloc: Global, job: &Job, image: &Image) -> Result<Ma
 }
 
 /// The report of a run of at most `budget` retirements.
-#[tactic(auto, unfolding(crate::specs::Run::run_report))]
+#[tactic(auto, unfolding(crate::specs::InOrder::run_report))]
 pub(crate) fn run_report(
     alloc: Global,
     mut machine: Machine,

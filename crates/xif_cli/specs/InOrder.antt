@@ -26,14 +26,21 @@ least_params = record {
 abbrev pub no_units : Extension
 no_units = record { set = []; params = least_params }
 
--- the machine at the start of `raw`: the image's bytes from address 0 on, the first instruction there, and all registers 0
+-- the machine at the start of `raw`: the image's bytes from address 0 on, the first instruction
+-- there, and all registers 0
 abbrev pub raw_start : List ℕ → State
-raw_start image = record { pc = 0; registers = replicate 32 0; memory = record { base = 0; bytes = image }; units = [] }
+raw_start image = record {
+  pc = 0;
+  registers = replicate 32 0;
+  memory = record { base = 0; bytes = image };
+  units = [];
+}
 
 -- the report of a run of at most so many retirements
 unfoldable pub run_report : Extension → State → ℕ → List ℕ
 run_report x start budget =
-    report_of (stop_within x budget start) (retired_within x budget start) (last_within x budget start) start.memory.bytes
+    report_of (stop_within x budget start) (retired_within x budget start)
+    (last_within x budget start) start.memory.bytes
 
 -- what `raw` prints
 unfoldable pub raw_report : List ℕ → ℕ → List ℕ
@@ -43,7 +50,8 @@ raw_report image count = run_report no_units (raw_start image) count
 abbrev pub extension_of : Job → Extension
 extension_of job = record { set = job.set; params = job.params }
 
--- the machine at the start of `step`: the image in a memory of zeros, the first instruction at the job's entry, and all registers and accumulators 0
+-- the machine at the start of `step`: the image in a memory of zeros, the first instruction at the
+-- job's entry, and all registers and accumulators 0
 abbrev pub step_start : Job → Placement → State
 step_start job image = record {
   pc = job.entry;

@@ -1,12 +1,16 @@
--- What the program answers, and what stands afterwards.
-use Rattle.std.specs.Prelude.{◌≡◌, ◌==◌, ◌&&◌, ◌||◌, ℕ, Bool, true, false, not, List, Result, String, string_bytes, map}
+-- How a call of the program can end, and why.
+use Rattle.std.specs.Prelude.{◌≡◌, ◌&&◌, ◌||◌, ℕ, Bool, true, false, not, List, Result, String, string_bytes, map}
 use Rattle.std.specs.declared.alloc.Global.{Global}
 use Rattle.xif_base.specs.Faults.{Rose}
 use Rattle.xif_base.specs.declared.outside.Which.{Which}
 use Rattle.xif_base.specs.declared.outside.Which.TheVariants as which
+use Rattle.xif_image.specs.declared.image.ImageFault.{ImageFault}
+use Rattle.xif_image.specs.declared.image.ImageFault.TheVariants as image
+use Rattle.xif_job.specs.declared.field.JobFault.{JobFault}
+use Rattle.xif_job.specs.declared.field.JobFault.TheVariants as job
 use Rattle.xif_cli.specs.declared.status.Status.{Status}
 use Rattle.xif_cli.specs.declared.status.Status.TheVariants.{Done, Illegal, Usage, ReadFault, WriteFault, Job, Image, Vcd, Map, TooBig, NoMemory, Unbuilt}
-use Rattle.xif_cli.specs.Outcome.{Lookup, Answer, place_of, outcome_of}
+use Rattle.xif_cli.specs.Outcome.{Lookup, Answer, is_same, command_outcome}
 use Rattle.xif_cli.specs.Words.{Form, IsCommand}
 use Rattle.xif_cli.specs.Words as form
 
@@ -18,23 +22,30 @@ texts_of words = map string_bytes words
 abbrev pub IsNoCommand : List (String Global) → Type 0
 IsNoCommand words = (form : Form) → ¬ IsCommand (texts_of words) form
 
--- what the words ask for comes to this, over what is read of the files
+-- what the words ask for means this, over what is read of the files
 abbrev pub Means : List (String Global) → Lookup → Result Answer Status → Type 0
-Means words find outcome = (form : Form) × (IsCommand (texts_of words) form × (outcome_of form find ≡ outcome))
+Means words find outcome =
+    (form : Form) × (IsCommand (texts_of words) form × (command_outcome form find ≡ outcome))
 
 -- the files that a form reads
 abbrev pub reads : Form → Which → Bool
-reads (form.Raw image count) w = place_of w == place_of which.Image
-reads (form.Step job) w = (place_of w == place_of which.Job) || (place_of w == place_of which.Image)
-reads (form.Judge job waveform) w = (place_of w == place_of which.Job) || (place_of w == place_of which.Waveform)
-reads _ w = false
+reads (form.Raw image count) w = is_same w which.Image
+reads (form.Step job) w = is_same w which.Job || is_same w which.Image
+reads (form.Run job) w = false
+reads (form.Judge job waveform) w = is_same w which.Job || is_same w which.Waveform
+reads (form.Gen seed count) w = false
+reads (form.Harts job) w = false
+reads (form.Replay job waveform) w = false
 
 -- a form that is built
 abbrev pub is_built : Form → Bool
 is_built (form.Raw image count) = true
 is_built (form.Step job) = true
+is_built (form.Run job) = false
 is_built (form.Judge job waveform) = true
-is_built _ = false
+is_built (form.Gen seed count) = false
+is_built (form.Harts job) = false
+is_built (form.Replay job waveform) = false
 
 -- a form that reads a job
 abbrev pub has_job : Form → Bool
@@ -44,27 +55,32 @@ has_job f = reads f which.Job
 abbrev pub is_judge : Form → Bool
 is_judge f = reads f which.Waveform
 
--- the statuses that a form can end with, whether files are told or not
+-- a fault of a job that is reported as one: that memory is out, and that a job's tables aren't
+-- built yet, have statuses of their own
+abbrev pub is_job_fault : JobFault → Bool
+is_job_fault job.NoMemory = false
+is_job_fault job.Unbuilt = false
+is_job_fault fault = true
+
+-- likewise of an image
+abbrev pub is_image_fault : ImageFault → Bool
+is_image_fault image.NoMemory = false
+is_image_fault fault = true
+
+-- the statuses that a form can end with, whatever the shelf reports of its files
 abbrev pub can_end : Form → Status → Bool
 can_end f Done = is_built f
 can_end f Illegal = is_judge f
 can_end f Usage = false
 can_end f (ReadFault w) = reads f w
-can_end f (WriteFault w) = is_built f && (place_of w == place_of which.Output)
-can_end f (Job fault) = has_job f
-can_end f (Image fault) = has_job f && reads f which.Image
+can_end f (WriteFault w) = is_built f && is_same w which.Output
+can_end f (Job fault) = has_job f && is_job_fault fault
+can_end f (Image fault) = has_job f && reads f which.Image && is_image_fault fault
 can_end f (Vcd fault) = is_judge f
 can_end f (Map fault) = is_judge f
 can_end f (TooBig w) = reads f w
 can_end f NoMemory = is_built f
 can_end f Unbuilt = has_job f || not (is_built f)
-
--- the statuses that a form can end with before it prints
-abbrev pub can_refuse : Form → Status → Bool
-can_refuse f Done = false
-can_refuse f Illegal = false
-can_refuse f (WriteFault w) = false
-can_refuse f status = can_end f status
 
 -- a call raised a count of faults, and what was called didn't say that it would have none
 abbrev pub IsFaulted : (faultless : Type 0) (before now : ℕ) → Type 0
