@@ -1,7 +1,7 @@
 -- The reports of runs, by how the runs end.
 use Rattle.std.proofs.Common.{◌≡◌, ◌<◌, ℕ, Option, Some, None, sym, ap, ◌∙◌}
-use Rattle.inorder_machine.specs.After.{after, next_by, stop_of, retired_within, last_within}
-use Rattle.inorder_machine.specs.Machine.{Extension, State, outcome_of}
+use Rattle.inorder_machine.specs.After.{after, state_if_retired, stop_of, retired_within, last_within}
+use Rattle.inorder_machine.specs.Machine.{Extension, State, next_step}
 use Rattle.inorder_machine.specs.declared.machine.Stepped.TheVariants.{Stop}
 use Rattle.inorder_machine.specs.declared.stop.StopCause.{StopCause}
 use Rattle.inorder_machine.proofs.Retirements.{Ends, ends-full, ends-early}
@@ -21,7 +21,7 @@ pub report-full : (x : Extension) → (budget : ℕ) (s t : State) → after x b
 report-full x budget s t e = report-ends x budget budget s t None (ends-full x budget s t e)
 
 -- by an instruction that stops
-pub report-stopped : (x : Extension) → (budget n : ℕ) (s t : State) (cause : StopCause) → n < budget → after x n s ≡ Some t → outcome_of x t ≡ Stop cause → run_report x s budget ≡ report_of (Some cause) n t s.memory.bytes
+pub report-stopped : (x : Extension) → (budget n : ℕ) (s t : State) (cause : StopCause) → n < budget → after x n s ≡ Some t → next_step x t ≡ Stop cause → run_report x s budget ≡ report_of (Some cause) n t s.memory.bytes
 report-stopped x budget n s t cause h e stop =
-    report-ends x budget n s t (stop_of (outcome_of x t)) (ends-early x budget n s t e (ap (next_by x t) stop) h)
+    report-ends x budget n s t (stop_of (next_step x t)) (ends-early x budget n s t e (ap (state_if_retired x t) stop) h)
     ∙ ap (λ how. report_of how n t s.memory.bytes) (ap stop_of stop)

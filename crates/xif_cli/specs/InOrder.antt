@@ -20,6 +20,7 @@ least_params = record {
   dual_read = 0;
   dual_write = false;
   split = false;
+  profile = 1;
 }
 
 -- RV32IM alone: there are no units

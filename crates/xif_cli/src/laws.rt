@@ -2,7 +2,7 @@
 //! functions are only for proofs and readers; they do nothing.
 ghost use Rattle.std.specs.Prelude.{◌≡◌, ◌<◌, ℕ, List};
 ghost use Rattle.inorder_machine.specs.After.{after};
-ghost use Rattle.inorder_machine.specs.Machine.{State, outcome_of};
+ghost use Rattle.inorder_machine.specs.Machine.{State, next_step};
 ghost use Rattle.inorder_machine.specs.declared.machine.Stepped.TheVariants.{Stop};
 ghost use Rattle.inorder_machine.specs.declared.stop.StopCause.{StopCause};
 ghost use Rattle.xif_image.specs.Image.{Placement};
@@ -18,7 +18,7 @@ pub fn raw_law()
         raw_report image count ≡ report_of None count last image }
     ensures stop { (image : List ℕ) → (count n : ℕ) → (last : State) → (cause : StopCause) →
         n < count → after no_units n (raw_start image) ≡ Some last →
-        outcome_of no_units last ≡ Stop cause →
+        next_step no_units last ≡ Stop cause →
         raw_report image count ≡ report_of (Some cause) n last image }
 {}
 
@@ -33,7 +33,7 @@ pub fn step_law()
     ensures stop { (job : Job) → (image : Placement) → (n : ℕ) → (last : State) →
         (cause : StopCause) → n < job.budget →
         after (extension_of job) n (step_start job image) ≡ Some last →
-        outcome_of (extension_of job) last ≡ Stop cause →
+        next_step (extension_of job) last ≡ Stop cause →
         step_report job image
         ≡ report_of (Some cause) n last (step_start job image).memory.bytes }
 {}

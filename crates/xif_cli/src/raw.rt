@@ -26,6 +26,7 @@ const LEAST_PARAMS: Params = Params {
     dual_read: 0,
     dual_write: false,
     split: false,
+    profile: 1,
 };
 
 /// The report of the image of a file, which runs at address 0 for at most `count` retirements.

@@ -4,6 +4,4 @@
 #[cfg(test)]
 mod jobs;
 #[cfg(test)]
-mod judging;
-#[cfg(test)]
 mod program;
