@@ -10,8 +10,8 @@ use crate::rows::Row;
 pub enum Next {
     /// To the instruction at this address.
     Go(u32),
-    /// Nowhere: the target is taken and no multiple of 4, which is an exception of the jump or branch
-    /// itself.
+    /// Nowhere: the target is taken and no multiple of 4, which is an exception of the jump or
+    /// branch itself.
     Misaligned(u32),
 }
 

@@ -10,8 +10,8 @@ pub fn rd_field(word: u32) -> u8
     ((word >> 7) & 0x1f) as u8
 }
 
-/// The number of the source register of a lane, 0, 1 or 2: rs1 (bits 19 to 15), rs2 (bits 24 to 20),
-/// or rs3 (bits 31 to 27) of the R4-type (section 11.6).
+/// The number of the source register of a lane, 0, 1 or 2: rs1 (bits 19 to 15), rs2 (bits 24 to
+/// 20), or rs3 (bits 31 to 27) of the R4-type (section 11.6).
 pub fn rs_field(word: u32, lane: u8) -> u8
     requires { lane < 3 }
     ensures field { result ≡ source_field word lane }

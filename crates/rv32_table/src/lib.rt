@@ -2,9 +2,9 @@
 //! it does (RISC-V Unprivileged ISA, version 20191213, chapters 2 and 7).
 //!
 //! The layer above uses `decode`, the calls on `Instr`, then `alu`, `branch` or `access` by the
-//! kind, the fields of any word, and `sign_extend`. The table itself, a line a row, is `row_line` in
-//! specs/Table.antt; what the calls return by it is in specs/Instr.antt. laws.rt has what holds of
-//! the table: each word is of one row, and the columns for registers are those of the formats.
+//! kind, the fields of any word, and `sign_extend`. The table itself, a line a row, is `row_line`
+//! in specs/Table.antt; what the calls return by it is in specs/Instr.antt. laws.rt has what holds
+//! of the table: each word is of one row, and the columns for registers are those of the formats.
 #![tactic(auto)]
 
 mod arithmetic;

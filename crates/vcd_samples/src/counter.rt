@@ -1,4 +1,4 @@
-// The samples of a waveform, counted while it is read.
+//! The samples of a waveform, counted while it is read.
 ghost use Rattle.std.specs.Prelude.{◌≡◌, ◌≤◌, ◌<◌, ◌+◌, ◌^◌, false, length};
 
 use std::alloc::{AllocError, Global};

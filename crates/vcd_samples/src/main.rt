@@ -1,5 +1,5 @@
-//! Counts the samples of a waveform, under the map of default names: the program that bench/vcd times.
-//! The word after its name is that of the waveform's file.
+//! Counts the samples of a waveform, under the map of default names: the program that bench/vcd
+//! times. The word after its name is that of the waveform's file.
 #![tactic(auto)]
 
 mod counter;

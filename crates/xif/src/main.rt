@@ -1,5 +1,6 @@
-//! The program `xif`: the words, the files and the standard output of the system, and `xif_cli::xif`
-//! between them. It prints the fault line on standard error and ends with the status's number.
+//! The program `xif`: the words, the files and the standard output of the system, and
+//! `xif_cli::xif` between them. It prints the fault line on standard error and ends with the
+//! status's number.
 #![tactic(auto)]
 
 use std::alloc::Global;

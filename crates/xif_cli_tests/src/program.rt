@@ -26,8 +26,7 @@ const WAVEFORM: &str = "$var wire 1 ! c $end\n$enddefinitions $end\n#0\n0!\n#5\n
 const CALLS: [&str; 3] = ["raw p 10", "step j", "judge j w"];
 
 // The failing call, the status with its fault line, and what is printed.
-const WANTED: &str =
-    "raw p 10, fetch 0: 3 read image||\n\
+const WANTED: &str = "raw p 10, fetch 0: 3 read image||\n\
     raw p 10, put 0: 4 write output||\n\
     raw p 10, fetch 1: 3 read image||\n\
     raw p 10, put 1: 4 write output|end=ecall pc=0x0|\n\
@@ -106,6 +105,9 @@ fn statuses_are_faults_but_two(rt: HostRuntime) -> Result<(), Fail> {
     assert!(rt; !Status::Done.is_fault());
     assert!(rt; !Status::Illegal.is_fault());
     assert!(rt; Status::NoMemory.is_fault());
-    assert_eq!(rt; Status::NoMemory.to_string(rt.alloc())?.as_str(), "no memory");
+    assert_eq!(rt;
+        Status::NoMemory.to_string(rt.alloc())?.as_str(),
+        "no memory"
+    );
     Ok(())
 }

@@ -27,8 +27,8 @@ use xif_sampler::SignalMap;
 pub struct Job {
     /// The table `params`: the parameters of the interface (CV-X-IF 1.0.0, "Parameters"), in their
     /// ranges. By default X_NUM_RS is 2, X_ID_WIDTH 3, X_RFR_WIDTH and X_RFW_WIDTH 32 bits,
-    /// X_NUM_HARTS and X_HARTID_WIDTH 1, X_DUALREAD and X_DUALWRITE 0, X_ISSUE_REGISTER_SPLIT 1, and
-    /// the profile of the rules 1.
+    /// X_NUM_HARTS and X_HARTID_WIDTH 1, X_DUALREAD and X_DUALWRITE 0, X_ISSUE_REGISTER_SPLIT 1,
+    /// and the profile of the rules 1.
     pub params: Params,
     /// The table `image`: the file of the memory's contents.
     pub image: ImageSource,

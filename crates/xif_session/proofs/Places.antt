@@ -212,7 +212,6 @@ module _ (params : Params) (p : Past) (b : Bus) (range : IsInRange params) where
     λ h. ap (option_map (λ rule. fault_of params rule p b)) (none_of fails bus_rules (λ rule m. kept rule (h rule))),
   )
 
-
   place : (rule : Rule) → (fault_of params rule p b).rule ≡ rule
   place H1 = at_channel (lost_channel params b)
     where

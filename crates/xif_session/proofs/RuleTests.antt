@@ -103,8 +103,8 @@ halves_out : (params : Params) (flags : ℕ) (before after : Bus) (lane : ℕ) �
 halves_out params flags before after lane s =
     and-true _ _ (when_out (has_flag flags (even_bit params lane)) _ (λ f. eq-eqb (low_half (lane_value after lane)) (low_half (lane_value before lane)) (s.low f)))
     (when_out (has_odd_flag params flags lane) _ (λ f.
-        let o = odd_out params flags lane f in
-        eq-eqb (high_half (lane_value after lane)) (high_half (lane_value before lane)) (s.high o.0 o.1.0 o.1.1)))
+    let o = odd_out params flags lane f in
+    eq-eqb (high_half (lane_value after lane)) (high_half (lane_value before lane)) (s.high o.0 o.1.0 o.1.1)))
 
 -- ---- H1
 
@@ -197,9 +197,9 @@ rule_I5 params b r = (
   λ k. when_out (is_issued b && b.issue_accept) _ (λ x.
       let y = both-true (is_issued b) _ x in
       lanes_out params (λ lane. when (has_odd_flag params b.issue_register_read lane) (source_field b.issue_instr lane % 2 == 0)) r.num_rs.0 (λ lane inside.
-          when_out (has_odd_flag params b.issue_register_read lane) _ (λ f.
-              let o = odd_out params b.issue_register_read lane f in
-              eq-eqb (source_field b.issue_instr lane % 2) 0 (k y.0 y.1 lane o.0 inside o.1.0 o.1.1)))),
+      when_out (has_odd_flag params b.issue_register_read lane) _ (λ f.
+      let o = odd_out params b.issue_register_read lane f in
+      eq-eqb (source_field b.issue_instr lane % 2) 0 (k y.0 y.1 lane o.0 inside o.1.0 o.1.1)))),
 )
 
 -- ---- the register rules
@@ -327,11 +327,11 @@ rule_C3 params p b = (
       },
   λ k. and-true _ _
       (when_out (b.commit_valid && b.commit_kill) _ (λ x.
-          let y = both-true b.commit_valid _ x in
-          if_out (λ f. not (is_released f.decision)) (λ f. is_released f.decision ≡ false) (named p b (commit_key b)) (λ f q. not_out (is_released f.decision) q) (k.unreleased y.0 y.1)))
+      let y = both-true b.commit_valid _ x in
+      if_out (λ f. not (is_released f.decision)) (λ f. is_released f.decision ≡ false) (named p b (commit_key b)) (λ f q. not_out (is_released f.decision) q) (k.unreleased y.0 y.1)))
       (when_out ((params.profile == 2) && b.commit_kill) _ (λ x.
-          let y = both-true (params.profile == 2) _ x in
-          order_out params p b (λ start e. k.in_order (eqb-true params.profile 2 y.0) y.1 start e))),
+      let y = both-true (params.profile == 2) _ x in
+      order_out params p b (λ start e. k.in_order (eqb-true params.profile 2 y.0) y.1 start e))),
 )
 
 -- ---- the result rules

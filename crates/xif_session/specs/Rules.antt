@@ -187,7 +187,7 @@ writeback_of (Some response) = response.writeback.0
 abbrev pub HoldsR4 : Past → Bus → Type 0
 HoldsR4 p b =
     IsTrue b.result_valid → IfSome (now p b (result_key b)) (λ fact.
-        (read_of fact.response == 0) ≡ false → IsTrue (is_some fact.operands))
+    (read_of fact.response == 0) ≡ false → IsTrue (is_some fact.operands))
 
 -- R5: a result writes what the response said.
 abbrev pub HoldsR5 : Past → Bus → Type 0

@@ -72,7 +72,7 @@ abbrev pub keeps_I5 : Params → Bus → Bool
 keeps_I5 params b =
     when (is_issued b && b.issue_accept)
     (each_lane params (λ lane.
-        when (has_odd_flag params b.issue_register_read lane) (source_field b.issue_instr lane % 2 == 0)))
+    when (has_odd_flag params b.issue_register_read lane) (source_field b.issue_instr lane % 2 == 0)))
 
 abbrev pub keeps_G1 : Params → Bus → Bool
 keeps_G1 params b =

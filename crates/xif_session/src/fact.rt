@@ -24,7 +24,8 @@ pub enum Decision {
     Killed,
 }
 
-/// The latest use of a key: an instruction that was offered under it, and what happened to it so far.
+/// The latest use of a key: an instruction that was offered under it, and what happened to it so
+/// far.
 #[derive(Clone, Copy, Debug, PartialEq, Eq)]
 pub struct Fact {
     /// The cycle in which its issue transaction starts, counted from the first one of the session.

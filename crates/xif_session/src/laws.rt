@@ -27,8 +27,9 @@ pub fn fault_law()
         IsInRange params → (bus_fault params p b ≡ Some fault) ↔ IsFirstFault params p b fault }
 {}
 
-/// The facts of a key are those of its latest use in the list of all uses of the session. If I2 held
-/// so far, no use of the key is in flight if and only if the latest one isn't: older uses are over.
+/// The facts of a key are those of its latest use in the list of all uses of the session. If I2
+/// held so far, no use of the key is in flight if and only if the latest one isn't: older uses are
+/// over.
 pub fn facts_law()
     ensures latest { (session : List Bus) (key : Key) →
         latest (uses_of session) key ≡ (past_of session).facts key }

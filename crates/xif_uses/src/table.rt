@@ -52,7 +52,8 @@ const EMPTY: Slot = Slot {
 #[derive(Debug, Drop)]
 pub struct UseTable {
     params: Params,
-    /// The number of the session. The slots of other sessions are empty, so that `clear` need not visit them.
+    /// The number of the session. The slots of other sessions are empty, so that `clear` need not
+    /// visit them.
     session: u64,
     /// Hart by hart, and id by id.
     slots: Vec<Slot>,
@@ -66,7 +67,10 @@ impl Model for UseTable {
 
     ghost Value = { Table };
 
-    ghost view = { λ t. record { params = t.params; uses = map (λ slot. live t.session slot.session slot.latest) t.slots.items } };
+    ghost view = { λ t. record {
+      params = t.params;
+      uses = map (λ slot. live t.session slot.session slot.latest) t.slots.items;
+    } };
 
     ghost invariant = { λ t. IsInRange t.params
         × ((length t.slots.items ≡ t.params.num_harts * 2 ^ t.params.id_width)
@@ -93,7 +97,11 @@ impl UseTable {
         ensures { result ≡ use_of self.now key }
     {
         let slot = &self.slots[self.place(key)];
-        if slot.session == self.session { slot.latest } else { None }
+        if slot.session == self.session {
+            slot.latest
+        } else {
+            None
+        }
     }
 
     /// Forgets all uses: a new session begins. No slot is visited, but once in 2^64 sessions.
@@ -114,7 +122,8 @@ impl UseTable {
         requires later { StartsBefore self.old cycle }
         ensures latest { Sets self.old self.new key (Some (spec.new_use cycle instr)) }
         ensures facts { (params : Params) (facts : Facts) → Represents self.old params facts
-            → Represents self.new params (session.started (session.same_key key) cycle instr facts) }
+            → Represents self.new params
+            (session.started (session.same_key key) cycle instr facts) }
     {
         self.put(
             key,
@@ -153,7 +162,8 @@ impl UseTable {
     pub fn response(&mut self, key: Key, response: Response)
         requires key { IsKey self.old.params key }
         requires ongoing { IsSomeAnd (use_of self.old key) (λ latest. latest.ongoing ≡ true) }
-        ensures latest { Sets self.old self.new key (option_map (spec.with_answer response) (use_of self.old key)) }
+        ensures latest { Sets self.old self.new key
+            (option_map (spec.with_answer response) (use_of self.old key)) }
         ensures facts { (params : Params) (facts : Facts) → Represents self.old params facts
             → Represents self.new params (session.answered (session.same_key key) response facts) }
     {
@@ -210,7 +220,8 @@ impl UseTable {
     /// Whether the latest use of a key is in flight, so that the key may not be used again.
     pub fn in_flight(&self, key: Key) -> bool
         requires { IsKey self.now.params key }
-        ensures { result ≡ session.is_in_flight self.now.params.profile (option_map spec.fact_of (use_of self.now key)) }
+        ensures { result
+            ≡ session.is_in_flight self.now.params.profile (spec.facts_in self.now key) }
     {
         match self.latest(key) {
             None => false,
@@ -224,23 +235,33 @@ impl UseTable {
         }
     }
 
-    /// A commit names a key. Where its latest use is undecided, a release decides it and the undecided uses
-    /// of its hart that started earlier, and a kill decides it and those that started later (CV-X-IF 1.0.0,
-    /// "Commit interface"). Nothing changes otherwise.
+    /// A commit names a key. Where its latest use is undecided, a release decides it and the
+    /// undecided uses of its hart that started earlier, and a kill decides it and those that
+    /// started later (CV-X-IF 1.0.0, "Commit interface"). Nothing changes otherwise.
     pub fn decide(&mut self, key: Key, kill: bool) -> Decided
         requires { IsKey self.old.params key }
         ensures answer { result ≡ spec.answer_of self.old key kill }
-        ensures taken { result ≡ Decided.Taken → spec.DecidesFrom self.old self.new key kill (use_of self.old key) }
+        ensures taken { result ≡ Decided.Taken →
+            spec.DecidesFrom self.old self.new key kill (use_of self.old key) }
         ensures kept { result ≢ Decided.Taken → self.new ≡ self.old }
-        ensures facts { (params : Params) (facts : Facts) → Represents self.old params facts → result ≢ Decided.OutOfOrder
-            → Represents self.new params (session.decided_from (session.undecided_start (facts key)) key.hart kill facts) }
+        ensures facts { (params : Params) (facts : Facts) → Represents self.old params facts
+            → result ≢ Decided.OutOfOrder → Represents self.new params
+            (session.decided_from (session.undecided_start (facts key)) key.hart kill facts) }
     {
         let Some(named) = self.latest(key) else {
             return Decided::NoUse;
         };
         match named.decision {
-            Decision::Released => return if kill { Decided::WasReleased } else { Decided::Repeat },
-            Decision::Killed => return if kill { Decided::Repeat } else { Decided::WasKilled },
+            Decision::Released => return if kill {
+                Decided::WasReleased
+            } else {
+                Decided::Repeat
+            },
+            Decision::Killed => return if kill {
+                Decided::Repeat
+            } else {
+                Decided::WasKilled
+            },
             Decision::Undecided => {}
         }
         if kill && !self.is_in_order(key.hart, named.start) {
@@ -253,7 +274,8 @@ impl UseTable {
     /// Whether a kill of a use of a hart with this start is in order.
     fn is_in_order(&self, hart: u8, start: u64) -> bool
         requires { hart < self.now.params.num_harts }
-        ensures { result ≡ (not (self.now.params.profile == 2) || spec.is_first_pending self.now hart start) }
+        ensures { result
+            ≡ (not (self.now.params.profile == 2) || spec.is_first_pending self.now hart start) }
     {
         self.params.profile != 2 || self.is_first_pending(hart, start)
     }
@@ -263,7 +285,11 @@ impl UseTable {
         ensures { result ≡ spec.is_first_pending self.now hart start }
     {
         for id in 0..id_count(&self.params) {
-            if let Some(latest) = self.latest(Key { hart, id }) && is_pending(&latest) && latest.start < start {
+            let key = Key { hart, id };
+            if let Some(latest) = self.latest(key)
+                && is_pending(&latest)
+                && latest.start < start
+            {
                 return false;
             }
         }
@@ -320,7 +346,8 @@ fn key_count(params: &Params) -> usize
 
 fn empty_all(slots: &mut [Slot])
     ensures count { length slots.new ≡ length slots.old }
-    ensures empty { (k : ℕ) (d : Slot) → k < length slots.new → slice_index_or slots.new k d ≡ empty_slot }
+    ensures empty { (k : ℕ) (d : Slot) →
+        k < length slots.new → slice_index_or slots.new k d ≡ empty_slot }
 {
     for place in 0..slots.len() {
         slots[place] = EMPTY;

@@ -21,6 +21,6 @@ returns-in-loop-id c = go (none_before (facts_in c.args.self.now) c.args.hart c.
     go false e = refl
     go true e =
         let late : c.args.start ≤ c.in-Some.latest.start =
-            before_in c.args.self.now.params (facts_in c.args.self.now) c.args.hart c.args.start (2 ^ c.args.self.now.params.id_width) e c.loop-id.id (fact_of c.in-Some.latest) below found (sym c.is_pending.ensures ∙ c.if-is_pending.true) in
+        before_in c.args.self.now.params (facts_in c.args.self.now) c.args.hart c.args.start (2 ^ c.args.self.now.params.id_width) e c.loop-id.id (fact_of c.in-Some.latest) below found (sym c.is_pending.ensures ∙ c.if-is_pending.true) in
         let early : c.in-Some.latest.start < c.args.start = c.if-latest-start.true in
         absurd (omega arith)

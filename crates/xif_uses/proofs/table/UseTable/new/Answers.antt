@@ -9,10 +9,15 @@ use Rattle.xif_uses.proofs.table.UseTable.new.Goals as goal
 pub invariant_of-result : goal.invariant_of-result
 invariant_of-result c =
     let e : c.in_ok-vec.field-0.items ≡ replicate c.key_count-count.result empty_slot = c.in_ok-vec.ensures.items_if_clones_equal (λ y same. same) in
-    let n : length c.in_ok-vec.field-0.items ≡ c.key_count-count.result = ap length e ∙ length-replicate c.key_count-count.result empty_slot in
-    (c.requires, (n ∙ c.key_count-count.ensures, λ k d l.
-        let z : slice_index_or c.in_ok-vec.field-0.items k d ≡ empty_slot = ap (λ xs. slice_index_or xs k d) e ∙ each_empty c.key_count-count.result k d (subst (λ m. k < m) n l) in
-        let s : (slice_index_or c.in_ok-vec.field-0.items k d).session ≡ 0 = ap (λ (slot : Slot). slot.session) z in omega arith))
+    let n : length c.in_ok-vec.field-0.items ≡ c.key_count-count.result = ap length e ∙ length-replicate c.key_count-count.result empty_slot in (
+      c.requires,
+      (
+        n ∙ c.key_count-count.ensures,
+        λ k d l.
+            let z : slice_index_or c.in_ok-vec.field-0.items k d ≡ empty_slot = ap (λ xs. slice_index_or xs k d) e ∙ each_empty c.key_count-count.result k d (subst (λ m. k < m) n l) in
+            let s : (slice_index_or c.in_ok-vec.field-0.items k d).session ≡ 0 = ap (λ (slot : Slot). slot.session) z in omega arith,
+      ),
+    )
 
 pub returns : goal.returns
 returns c =
