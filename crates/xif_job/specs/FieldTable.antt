@@ -24,6 +24,7 @@ use Rattle.xif_job.specs.declared.field.JobFault.{JobFault}
 use Rattle.xif_job.specs.declared.field.JobFault.TheVariants.{NotToml, WrongKind, OutOfRange, UnknownField, Unbuilt}
 use Rattle.xif_job.specs.declared.field.JobFault.TheVariants as faults
 use Rattle.xif_job.specs.declared.readers.Absent.TheVariants.{Default, Missing}
+use Rattle.xif_job.specs.declared.params.Ports.{Ports}
 use Rattle.xif_job.specs.declared.memory.MemoryRange.{MemoryRange}
 use Rattle.xif_job.specs.declared.image.Image.{Image}
 use Rattle.xif_job.specs.declared.image.ImageKind.TheVariants as images
@@ -58,13 +59,24 @@ abbrev pub checked : Params → Result Unit ParamFault → Result Params JobFaul
 checked p (Ok _) = Ok p
 checked p (Err e) = Err (OutOfRange (param_field e))
 
-unfoldable pub params_of : Members → Result Params JobFault
-params_of top = do
-  t ← table_in fields.ParamsNumRs params_names (top at "params")
+-- the widths and the number of the ports, which stand first
+unfoldable pub ports_of : Members → Result Ports JobFault
+ports_of t = do
   num_rs ← number_in fields.ParamsNumRs (2 to 3) (Default 2) (t at "x_num_rs")
   id_width ← number_in fields.ParamsIdWidth (3 to 12) (Default 3) (t at "x_id_width")
   rfr_width ← port_width_in fields.ParamsRfrWidth (Default 32) (t at "x_rfr_width")
   rfw_width ← port_width_in fields.ParamsRfwWidth (Default 32) (t at "x_rfw_width")
+  Ok (record {
+    num_rs = num_rs;
+    id_width = id_width;
+    rfr_width = rfr_width;
+    rfw_width = rfw_width;
+  })
+
+unfoldable pub params_of : Members → Result Params JobFault
+params_of top = do
+  t ← table_in fields.ParamsNumRs params_names (top at "params")
+  ports ← ports_of t
   num_harts ← number_in fields.ParamsNumHarts (1 to 4) (Default 1) (t at "x_num_harts")
   hartid_width ← number_in fields.ParamsHartidWidth (1 to 8) (Default 1) (t at "x_hartid_width")
   dual_read ← number_in fields.ParamsDualRead (0 to 3) (Default 0) (t at "x_dualread")
@@ -72,10 +84,10 @@ params_of top = do
   split ← flag_in fields.ParamsIssueRegisterSplit (Default 1) (t at "x_issue_register_split")
   profile ← number_in fields.ParamsProfile (1 to 2) (Default 1) (t at "profile")
   let p : Params = record {
-    num_rs = num_rs;
-    id_width = id_width;
-    rfr_width = rfr_width;
-    rfw_width = rfw_width;
+    num_rs = ports.num_rs;
+    id_width = ports.id_width;
+    rfr_width = ports.rfr_width;
+    rfw_width = ports.rfw_width;
     num_harts = num_harts;
     hartid_width = hartid_width;
     dual_read = dual_read;

@@ -21,6 +21,8 @@ mod rv32;
 #[cfg(test)]
 mod signals;
 #[cfg(test)]
+mod uses;
+#[cfg(test)]
 mod vcd_reader;
 #[cfg(test)]
 mod vcd_writer;
