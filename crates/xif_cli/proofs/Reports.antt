@@ -2,7 +2,7 @@
 use Rattle.std.proofs.Common.{◌≡◌, ◌<◌, ℕ, Option, Some, None, sym, ap, ◌∙◌}
 use Rattle.inorder_machine.specs.After.{after, state_if_retired, stop_of, retired_within, last_within}
 use Rattle.inorder_machine.specs.Machine.{Extension, State, next_step}
-use Rattle.inorder_machine.specs.declared.machine.Stepped.TheVariants.{Stop}
+use Rattle.inorder_machine.specs.declared.line.Stepped.TheVariants.{Stop}
 use Rattle.inorder_machine.specs.declared.stop.StopCause.{StopCause}
 use Rattle.inorder_machine.proofs.Retirements.{Ends, ends-full, ends-early}
 use Rattle.xif_cli.specs.InOrder.{run_report}

@@ -3,7 +3,7 @@
 ghost use Rattle.std.specs.Prelude.{◌≡◌, ◌<◌, ℕ, List};
 ghost use Rattle.inorder_machine.specs.After.{after};
 ghost use Rattle.inorder_machine.specs.Machine.{State, next_step};
-ghost use Rattle.inorder_machine.specs.declared.machine.Stepped.TheVariants.{Stop};
+ghost use Rattle.inorder_machine.specs.declared.line.Stepped.TheVariants.{Stop};
 ghost use Rattle.inorder_machine.specs.declared.stop.StopCause.{StopCause};
 ghost use Rattle.xif_image.specs.Image.{Placement};
 ghost use Rattle.xif_job.specs.declared.job.Job.{Job};
