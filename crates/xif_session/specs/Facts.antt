@@ -1,6 +1,6 @@
--- What the buses of a session say of each key: its latest use. A key is a pair of hartid and id, and a use is one
--- instruction that is offered under it (CV-X-IF 1.0.0, "Identification"). A session is a list of buses, one a cycle,
--- the newest first.
+-- What the buses of a session say of each key: its latest use. A key is a pair of hartid and id,
+-- and a use is one instruction that is offered under it (CV-X-IF 1.0.0, "Identification"). A
+-- session is a list of buses, one a cycle, the newest first.
 use Rattle.std.specs.Prelude.{ℕ, ◌+◌, ◌==◌, ◌&&◌, ◌||◌, not, nat_le, Bool, true, false, if◌then◌else◌, Option, Some, None, is_some, List, [], ◌∷◌}
 use Rattle.std.specs.Option.{option_map, option_map_or}
 use Rattle.xif_base.specs.declared.params.Key.{Key}
@@ -29,7 +29,8 @@ commit_key b = key_of b Commit
 abbrev pub result_key : Bus → Key
 result_key b = key_of b ResultChannel
 
--- a transaction is accepted in a cycle in which valid and ready are 1 (CV-X-IF 1.0.0, "Handshake rules")
+-- a transaction is accepted in a cycle in which valid and ready are 1 (CV-X-IF 1.0.0, "Handshake
+-- rules")
 abbrev pub is_issued : Bus → Bool
 is_issued b = b.issue_valid && b.issue_ready
 
@@ -90,7 +91,8 @@ abbrev pub is_held : Option Fact → Bool
 is_held None = false
 is_held (Some fact) = is_refused fact.response && is_undecided fact.decision
 
--- In flight: the key may not be used again. In profile 2 a refused use keeps its key until it is decided.
+-- In flight: the key may not be used again. In profile 2 a refused use keeps its key until it is
+-- decided.
 abbrev pub is_in_flight : ℕ → Option Fact → Bool
 is_in_flight profile found = is_running found || (is_held found && (profile == 2))
 
@@ -105,7 +107,8 @@ is_pending (Some fact) = is_some fact.response && is_undecided fact.decision
 abbrev pub Facts : Type 0
 Facts = Key → Option Fact
 
--- what came before a cycle: how many cycles, the bus of the last one, and the latest use of each key
+-- what came before a cycle: how many cycles, the bus of the last one, and the latest use of each
+-- key
 pub record Past : Type 0 where
   pub cycle : ℕ
   pub last : Bus
@@ -143,11 +146,13 @@ idle_bus = record {
   result_we = 0;
 }
 
--- The issue transaction of the last cycle continues: it waited, its key is offered again, and its use wasn't killed.
+-- The issue transaction of the last cycle continues: it waited, its key is offered again, and its
+-- use wasn't killed.
 abbrev pub issue_continues : Past → Bus → Bool
 issue_continues p b =
     issue_waits p.last
-    && (b.issue_valid && (same_key (issue_key p.last) (issue_key b) && not (has_killed (p.facts (issue_key b)))))
+    && (b.issue_valid && (same_key (issue_key p.last) (issue_key b)
+    && not (has_killed (p.facts (issue_key b)))))
 
 -- Else an offer starts a use.
 abbrev pub is_start : Past → Bus → Bool
@@ -156,7 +161,8 @@ is_start p b = b.issue_valid && not (issue_continues p b)
 abbrev pub starts_key : Past → Bus → Key → Bool
 starts_key p b key = is_start p b && same_key (issue_key b) key
 
--- The register transaction of the last cycle continues: it waited, and it is for the same key and the same use.
+-- The register transaction of the last cycle continues: it waited, and it is for the same key and
+-- the same use.
 abbrev pub register_continues : Past → Bus → Bool
 register_continues p b =
     register_waits p.last
@@ -181,20 +187,22 @@ started is_for cycle instr facts key = if is_for key then Some (new_fact cycle i
 
 -- a use is answered
 abbrev pub with_response : Bool → Response → Fact → Fact
-with_response test response fact = record fact { response = if test then Some response else fact.response }
+with_response test response fact =
+    record fact { response = if test then Some response else fact.response }
 
 abbrev pub answered : (Key → Bool) → Response → Facts → Facts
 answered is_for response facts key = option_map (with_response (is_for key) response) (facts key)
 
 -- a use gets its operands
 abbrev pub with_operands : Bool → ℕ → Fact → Fact
-with_operands test flags fact = record fact { operands = if test then Some (record { 0 = flags }) else fact.operands }
+with_operands test flags fact =
+    record fact { operands = if test then Some (record { 0 = flags }) else fact.operands }
 
 abbrev pub given : (Key → Bool) → ℕ → Facts → Facts
 given is_for flags facts key = option_map (with_operands (is_for key) flags) (facts key)
 
--- A commit decides the undecided uses of a hart: a kill the named one and those that started later, a release the named
--- one and those that started earlier.
+-- A commit decides the undecided uses of a hart: a kill the named one and those that started later,
+-- a release the named one and those that started earlier.
 abbrev pub is_covered : (kill : Bool) (named start : ℕ) → Bool
 is_covered kill named start = if kill then nat_le named start else nat_le start named
 
@@ -202,7 +210,8 @@ abbrev pub verdict_of : Bool → Decision
 verdict_of kill = if kill then Killed else Released
 
 abbrev pub decision_after : Bool → Bool → Decision → Decision
-decision_after test kill decision = if test && is_undecided decision then verdict_of kill else decision
+decision_after test kill decision =
+    if test && is_undecided decision then verdict_of kill else decision
 
 abbrev pub with_decision : Bool → (named : ℕ) → (kill : Bool) → Fact → Fact
 with_decision of_hart named kill fact = record fact {
@@ -210,7 +219,8 @@ with_decision of_hart named kill fact = record fact {
 }
 
 abbrev pub decided : (hart named : ℕ) → (kill : Bool) → Facts → Facts
-decided hart named kill facts key = option_map (with_decision (hart == key.hart) named kill) (facts key)
+decided hart named kill facts key =
+    option_map (with_decision (hart == key.hart) named kill) (facts key)
 
 -- A commit that isn't effective decides nothing.
 abbrev pub decided_from : Option ℕ → (hart : ℕ) → (kill : Bool) → Facts → Facts
@@ -226,7 +236,8 @@ ended is_for facts key = option_map (with_end (is_for key)) (facts key)
 
 -- ---- the changes of a cycle
 
--- The latest use by this cycle: with the one that starts in it, and what was said of it before the cycle.
+-- The latest use by this cycle: with the one that starts in it, and what was said of it before the
+-- cycle.
 abbrev pub named : Past → Bus → Facts
 named p b = started (starts_key p b) p.cycle b.issue_instr p.facts
 

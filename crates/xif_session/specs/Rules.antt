@@ -1,5 +1,5 @@
--- The rules, each of what came before a cycle (`Past`) and of the bus in it. Sections are those of CV-X-IF 1.0.0. What
--- the standard leaves to a profile is this project's own (docs/RULES.md).
+-- The rules, each of what came before a cycle (`Past`) and of the bus in it. Sections are those of
+-- CV-X-IF 1.0.0. What the standard leaves to a profile is this project's own (docs/DECISIONS.md).
 use Rattle.std.specs.Prelude.{◌≡◌, ◌<◌, ◌≤◌, ◌/◌, ◌%◌, ◌^◌, ◌==◌, ℕ, Bool, true, false, if◌then◌else◌, Option, Some, None, is_some, IsTrue, IsSomeAnd, IfSome}
 use Rattle.rv32_table.specs.Instr.{rd_field, source_field}
 use Rattle.xif_base.specs.declared.params.Params.{Params}
@@ -21,7 +21,8 @@ abbrev pub IsWithin : (read flags : ℕ) → Type 0
 IsWithin read flags = (bit : ℕ) → IsTrue (has_flag read bit) → IsTrue (has_flag flags bit)
 
 abbrev pub lane_value : Bus → ℕ → ℕ
-lane_value b lane = if lane == 0 then b.register_rs0 else if lane == 1 then b.register_rs1 else b.register_rs2
+lane_value b lane =
+    if lane == 0 then b.register_rs0 else if lane == 1 then b.register_rs1 else b.register_rs2
 
 abbrev pub low_half : ℕ → ℕ
 low_half value = value % 2 ^ 32
@@ -46,7 +47,8 @@ HoldsI1 p b = IsTrue (issue_continues p b) → b.issue_instr ≡ p.last.issue_in
 
 -- I2: a use starts only under a key of which no use is in flight.
 abbrev pub HoldsI2 : Params → Past → Bus → Type 0
-HoldsI2 params p b = IsTrue (is_start p b) → is_in_flight params.profile (p.facts (issue_key b)) ≡ false
+HoldsI2 params p b =
+    IsTrue (is_start p b) → is_in_flight params.profile (p.facts (issue_key b)) ≡ false
 
 -- I3: what is refused writes nothing.
 abbrev pub HoldsI3 : Bus → Type 0
@@ -71,15 +73,16 @@ HoldsI5 params b =
 
 -- ---- "Register interface"
 
--- G1: without split the register channel mirrors the issue channel. Valid and key are the core's part, ready is the
--- coprocessor's.
+-- G1: without split the register channel mirrors the issue channel. Valid and key are the core's
+-- part, ready is the coprocessor's.
 pub record HoldsG1Core (params : Params) (b : Bus) : Type 0 where
   pub valid : params.split ≡ false → b.register_valid ≡ b.issue_valid
   pub key : params.split ≡ false → IsTrue b.issue_valid → register_key b ≡ issue_key b
 
 abbrev pub HoldsG1Engine : Params → Bus → Type 0
 HoldsG1Engine params b =
-    params.split ≡ false → IsTrue b.issue_valid → IsTrue b.register_valid → b.register_ready ≡ b.issue_ready
+    params.split ≡ false → IsTrue b.issue_valid → IsTrue b.register_valid
+    → b.register_ready ≡ b.issue_ready
 
 pub record HoldsG1 (params : Params) (b : Bus) : Type 0 where
   pub core : HoldsG1Core params b
@@ -87,11 +90,13 @@ pub record HoldsG1 (params : Params) (b : Bus) : Type 0 where
 
 -- G2: registers are for a use that there is, and that hasn't got them yet.
 abbrev pub HoldsG2 : Past → Bus → Type 0
-HoldsG2 p b = IsTrue b.register_valid → IsSomeAnd (named p b (register_key b)) (λ fact. fact.operands ≡ None)
+HoldsG2 p b =
+    IsTrue b.register_valid → IsSomeAnd (named p b (register_key b)) (λ fact. fact.operands ≡ None)
 
 -- G3: while the register transaction continues, no flag of rs_valid falls.
 abbrev pub HoldsG3 : Past → Bus → Type 0
-HoldsG3 p b = IsTrue (register_continues p b) → IsWithin p.last.register_rs_valid b.register_rs_valid
+HoldsG3 p b =
+    IsTrue (register_continues p b) → IsWithin p.last.register_rs_valid b.register_rs_valid
 
 -- G4: and each half that was valid is stable.
 pub record SameHalves (params : Params) (flags : ℕ) (before after : Bus) (lane : ℕ) : Type 0 where
@@ -109,16 +114,19 @@ HoldsG4 params p b =
 abbrev pub HasOperands : Option Response → Option ReadFlags → Type 0
 HasOperands response None = Unit {0}
 HasOperands None (Some flags) = Unit {0}
-HasOperands (Some response) (Some flags) = IsTrue response.accept → IsWithin response.register_read.0 flags.0
+HasOperands (Some response) (Some flags) =
+    IsTrue response.accept → IsWithin response.register_read.0 flags.0
 
 -- It is asked of the use that is answered in the cycle, and of the one that gets its registers.
 abbrev pub HoldsG5Issue : Past → Bus → Type 0
 HoldsG5Issue p b =
-    IsTrue (is_issued b) → IfSome (now p b (issue_key b)) (λ fact. HasOperands fact.response fact.operands)
+    IsTrue (is_issued b) → IfSome (now p b (issue_key b))
+    (λ fact. HasOperands fact.response fact.operands)
 
 abbrev pub HoldsG5Register : Past → Bus → Type 0
 HoldsG5Register p b =
-    IsTrue (is_given b) → IfSome (now p b (register_key b)) (λ fact. HasOperands fact.response fact.operands)
+    IsTrue (is_given b) → IfSome (now p b (register_key b))
+    (λ fact. HasOperands fact.response fact.operands)
 
 pub record HoldsG5 (p : Past) (b : Bus) : Type 0 where
   pub issue : HoldsG5Issue p b
@@ -136,17 +144,20 @@ HoldsC2 p b =
     IsTrue b.commit_valid → b.commit_kill ≡ false
     → IfSome (named p b (commit_key b)) (λ fact. is_killed fact.decision ≡ false)
 
--- No use of a hart that started before the named one was answered and is undecided. An id has X_ID_WIDTH bits.
+-- No use of a hart that started before the named one was answered and is undecided. An id has
+-- X_ID_WIDTH bits.
 abbrev pub NoneBefore : Params → Facts → (hart start : ℕ) → Type 0
 NoneBefore params facts hart start =
-    (id : ℕ) (fact : Fact) → id < 2 ^ params.id_width → facts (record { hart = hart; id = id }) ≡ Some fact
+    (id : ℕ) (fact : Fact) → id < 2 ^ params.id_width
+    → facts (record { hart = hart; id = id }) ≡ Some fact
     → IsTrue (is_pending (Some fact)) → start ≤ fact.start
 
 -- C3: what was released isn't killed. In profile 2 effective kills come in issue order.
 pub record HoldsC3 (params : Params) (p : Past) (b : Bus) : Type 0 where
   pub unreleased : IsTrue b.commit_valid → IsTrue b.commit_kill
       → IfSome (named p b (commit_key b)) (λ fact. is_released fact.decision ≡ false)
-  pub in_order : params.profile ≡ 2 → IsTrue b.commit_kill → (start : ℕ) → effective_start p b ≡ Some start
+  pub in_order : params.profile ≡ 2 → IsTrue b.commit_kill → (start : ℕ)
+      → effective_start p b ≡ Some start
       → NoneBefore params (named p b) b.commit_hartid start
 
 -- ---- "Result interface"
@@ -160,13 +171,16 @@ pub record SameResult (before after : Bus) : Type 0 where
   pub key : result_key after ≡ result_key before
   pub we : after.result_we ≡ before.result_we
   pub rd : (after.result_we == 0) ≡ false → after.result_rd ≡ before.result_rd
-  pub low : IsTrue (has_flag after.result_we 0) → low_half after.result_data ≡ low_half before.result_data
-  pub high : IsTrue (has_flag after.result_we 1) → high_half after.result_data ≡ high_half before.result_data
+  pub low : IsTrue (has_flag after.result_we 0)
+      → low_half after.result_data ≡ low_half before.result_data
+  pub high : IsTrue (has_flag after.result_we 1)
+      → high_half after.result_data ≡ high_half before.result_data
 
 abbrev pub HoldsR2 : Past → Bus → Type 0
 HoldsR2 p b = IsTrue (result_waits p.last) → SameResult p.last b
 
--- R3: a result is for a use that was accepted and released by this cycle, and has given none before.
+-- R3: a result is for a use that was accepted and released by this cycle, and has given none
+-- before.
 pub record MayFinish (fact : Fact) : Type 0 where
   pub accepted : IsTrue (is_accepted fact.response)
   pub released : IsTrue (is_released fact.decision)
@@ -192,7 +206,8 @@ HoldsR4 p b =
 -- R5: a result writes what the response said.
 abbrev pub HoldsR5 : Past → Bus → Type 0
 HoldsR5 p b =
-    IsTrue b.result_valid → IfSome (now p b (result_key b)) (λ fact. b.result_we ≡ writeback_of fact.response)
+    IsTrue b.result_valid
+    → IfSome (now p b (result_key b)) (λ fact. b.result_we ≡ writeback_of fact.response)
 
 -- R6: it writes the register that the instruction names.
 abbrev pub HoldsR6 : Past → Bus → Type 0

@@ -1,6 +1,6 @@
--- The rules as tests, and the first fault of a cycle. Internal: the contracts of the judge's code cite these tests, and
--- `rule_law` says that each is its rule; what has to be believed here is `fault_of`, the channel and the key that are
--- reported of a rule that fails.
+-- The rules as tests, and the first fault of a cycle. Internal: the contracts of the judge's code
+-- cite these tests, and `rule_law` says that each is its rule; what has to be believed here is
+-- `fault_of`, the channel and the key that are reported of a rule that fails.
 use Rattle.std.specs.Prelude.{◌≡◌, ◌==◌, ◌&&◌, ◌||◌, ◌%◌, ◌^◌, ◌++◌, not, nat_lt, nat_le, ℕ, zero, suc, Bool, true, false, if◌then◌else◌, Option, Some, None, is_some, is_none, List, [], ◌∷◌, find, bit_and}
 use Rattle.std.specs.Option.{option_map, option_map_or}
 use Rattle.rv32_table.specs.Instr.{rd_field, source_field}
@@ -48,7 +48,8 @@ has_odd_flag params flags lane = option_map_or (has_flag flags) (odd_bit params 
 -- ---- the tests
 
 abbrev pub has_hart : Params → Bus → Channel → Bool
-has_hart params b channel = when (valid_of b channel) (nat_lt (key_of b channel).hart params.num_harts)
+has_hart params b channel =
+    when (valid_of b channel) (nat_lt (key_of b channel).hart params.num_harts)
 
 -- the first channel whose hartid is that of no hart
 abbrev pub lost_channel : Params → Bus → Option Channel
@@ -58,7 +59,8 @@ abbrev pub keeps_I1 : Past → Bus → Bool
 keeps_I1 p b = when (issue_continues p b) (b.issue_instr == p.last.issue_instr)
 
 abbrev pub keeps_I2 : Params → Past → Bus → Bool
-keeps_I2 params p b = when (is_start p b) (not (is_in_flight params.profile (p.facts (issue_key b))))
+keeps_I2 params p b =
+    when (is_start p b) (not (is_in_flight params.profile (p.facts (issue_key b))))
 
 abbrev pub keeps_I3 : Bus → Bool
 keeps_I3 b = when (is_issued b && not b.issue_accept) (b.issue_writeback == 0)
@@ -72,19 +74,23 @@ abbrev pub keeps_I5 : Params → Bus → Bool
 keeps_I5 params b =
     when (is_issued b && b.issue_accept)
     (each_lane params (λ lane.
-    when (has_odd_flag params b.issue_register_read lane) (source_field b.issue_instr lane % 2 == 0)))
+    when (has_odd_flag params b.issue_register_read lane)
+    (source_field b.issue_instr lane % 2 == 0)))
 
 abbrev pub keeps_G1 : Params → Bus → Bool
 keeps_G1 params b =
     when (not params.split)
     (same_bit b.register_valid b.issue_valid
-    && when b.issue_valid (same_bit b.register_ready b.issue_ready && same_key (register_key b) (issue_key b)))
+    && when b.issue_valid (same_bit b.register_ready b.issue_ready
+    && same_key (register_key b) (issue_key b)))
 
 abbrev pub keeps_G2 : Past → Bus → Bool
-keeps_G2 p b = when b.register_valid (is_use (λ fact. is_none fact.operands) (named p b (register_key b)))
+keeps_G2 p b =
+    when b.register_valid (is_use (λ fact. is_none fact.operands) (named p b (register_key b)))
 
 abbrev pub keeps_G3 : Past → Bus → Bool
-keeps_G3 p b = when (register_continues p b) (is_within p.last.register_rs_valid b.register_rs_valid)
+keeps_G3 p b =
+    when (register_continues p b) (is_within p.last.register_rs_valid b.register_rs_valid)
 
 abbrev pub same_halves : Params → ℕ → Bus → Bus → ℕ → Bool
 same_halves params flags before after lane =
@@ -95,20 +101,24 @@ same_halves params flags before after lane =
 
 abbrev pub keeps_G4 : Params → Past → Bus → Bool
 keeps_G4 params p b =
-    when (register_continues p b) (each_lane params (same_halves params p.last.register_rs_valid p.last b))
+    when (register_continues p b)
+    (each_lane params (same_halves params p.last.register_rs_valid p.last b))
 
 abbrev pub has_operands : Option Response → Option ReadFlags → Bool
 has_operands response None = true
 has_operands None (Some flags) = true
-has_operands (Some response) (Some flags) = when response.accept (is_within response.register_read.0 flags.0)
+has_operands (Some response) (Some flags) =
+    when response.accept (is_within response.register_read.0 flags.0)
 
 abbrev pub keeps_G5_issue : Past → Bus → Bool
 keeps_G5_issue p b =
-    when (is_issued b) (if_use (λ fact. has_operands fact.response fact.operands) (now p b (issue_key b)))
+    when (is_issued b) (if_use
+    (λ fact. has_operands fact.response fact.operands) (now p b (issue_key b)))
 
 abbrev pub keeps_G5_register : Past → Bus → Bool
 keeps_G5_register p b =
-    when (is_given b) (if_use (λ fact. has_operands fact.response fact.operands) (now p b (register_key b)))
+    when (is_given b) (if_use
+    (λ fact. has_operands fact.response fact.operands) (now p b (register_key b)))
 
 abbrev pub keeps_C1 : Past → Bus → Bool
 keeps_C1 p b = when b.commit_valid (is_some (named p b (commit_key b)))
@@ -122,12 +132,15 @@ keeps_C2 p b =
 abbrev pub none_before : Facts → (hart start bound : ℕ) → Bool
 none_before facts hart start zero = true
 none_before facts hart start (suc id) =
-    if_use (λ fact. when (is_pending (Some fact)) (nat_le start fact.start)) (facts (record { hart = hart; id = id }))
+    if_use (λ fact. when (is_pending (Some fact)) (nat_le start fact.start))
+    (facts (record { hart = hart; id = id }))
     && none_before facts hart start id
 
 abbrev pub is_in_order : Params → Past → Bus → Bool
 is_in_order params p b =
-    option_map_or (λ start. none_before (named p b) b.commit_hartid start (2 ^ params.id_width)) (effective_start p b) true
+    option_map_or
+    (λ start. none_before (named p b) b.commit_hartid start (2 ^ params.id_width))
+    (effective_start p b) true
 
 abbrev pub keeps_C3 : Params → Past → Bus → Bool
 keeps_C3 params p b =
@@ -142,8 +155,10 @@ abbrev pub is_same_result : (before after : Bus) → Bool
 is_same_result before after =
     (same_key (result_key after) (result_key before) && (after.result_we == before.result_we))
     && (when (not (after.result_we == 0)) (after.result_rd == before.result_rd)
-    && (when (has_flag after.result_we 0) (low_half after.result_data == low_half before.result_data)
-    && when (has_flag after.result_we 1) (high_half after.result_data == high_half before.result_data)))
+    && (when (has_flag after.result_we 0)
+    (low_half after.result_data == low_half before.result_data)
+    && when (has_flag after.result_we 1)
+    (high_half after.result_data == high_half before.result_data)))
 
 abbrev pub keeps_R2 : Past → Bus → Bool
 keeps_R2 p b = when (result_waits p.last) (is_same_result p.last b)
@@ -157,11 +172,13 @@ keeps_R3 p b = when b.result_valid (is_use may_finish (now p b (result_key b)))
 abbrev pub keeps_R4 : Past → Bus → Bool
 keeps_R4 p b =
     when b.result_valid
-    (if_use (λ fact. when (not (read_of fact.response == 0)) (is_some fact.operands)) (now p b (result_key b)))
+    (if_use (λ fact. when (not (read_of fact.response == 0)) (is_some fact.operands))
+    (now p b (result_key b)))
 
 abbrev pub keeps_R5 : Past → Bus → Bool
 keeps_R5 p b =
-    when b.result_valid (if_use (λ fact. b.result_we == writeback_of fact.response) (now p b (result_key b)))
+    when b.result_valid (if_use
+    (λ fact. b.result_we == writeback_of fact.response) (now p b (result_key b)))
 
 abbrev pub keeps_R6 : Past → Bus → Bool
 keeps_R6 p b =
@@ -206,13 +223,15 @@ fault_by_key rule by_issue b = record {
   key = if by_issue then issue_key b else register_key b;
 }
 
--- The channel and the key of a rule that fails. H1 reports the first channel where it fails. G1 reports the issue key
--- where there is one. G5 reports the issue key where the use that is answered breaks it, whether another one does too or
--- not. R1 reports the key of the result that was retracted.
+-- The channel and the key of a rule that fails. H1 reports the first channel where it fails. G1
+-- reports the issue key where there is one. G5 reports the issue key where the use that is answered
+-- breaks it, whether another one does too or not. R1 reports the key of the result that was
+-- retracted.
 abbrev pub fault_of : Params → Rule → Past → Bus → Fault
 fault_of params K1 p b = fault_on K1 Issue b
 fault_of params K2 p b = fault_on K2 Issue b
-fault_of params H1 p b = option_map_or (λ channel. fault_on H1 channel b) (lost_channel params b) (fault_on H1 Issue b)
+fault_of params H1 p b =
+    option_map_or (λ channel. fault_on H1 channel b) (lost_channel params b) (fault_on H1 Issue b)
 fault_of params I1 p b = fault_on I1 Issue b
 fault_of params I2 p b = fault_on I2 Issue b
 fault_of params I3 p b = fault_on I3 Issue b
@@ -258,8 +277,8 @@ bus_rules = H1 ∷ (issue_rules ++ (register_rules ++ (commit_rules ++ result_ru
 abbrev pub bus_fault : Params → Past → Bus → Option Fault
 bus_fault params p b = first_fault_in bus_rules params p b
 
--- A fault is the first one of a cycle: its rule fails, every rule before it holds, and its channel and key are those of
--- its rule.
+-- A fault is the first one of a cycle: its rule fails, every rule before it holds, and its channel
+-- and key are those of its rule.
 pub record IsFirstFault (params : Params) (p : Past) (b : Bus) (fault : Fault) : Type 0 where
   pub fails : ¬ Holds params fault.rule p b
   pub earlier : (rule : Rule) → IsBefore rule fault.rule → Holds params rule p b

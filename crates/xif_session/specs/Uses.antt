@@ -1,5 +1,6 @@
--- All uses of a session, the newest first, older uses of a key among them: a second view, over the whole list.
--- `facts_law` says that the latest uses that `Facts` keeps are those of this list, and that I2 asks for no more.
+-- All uses of a session, the newest first, older uses of a key among them: a second view, over the
+-- whole list. `facts_law` says that the latest uses that `Facts` keeps are those of this list, and
+-- that I2 asks for no more.
 use Rattle.std.specs.Prelude.{ℕ, ◌==◌, ◌&&◌, not, Bool, true, false, if◌then◌else◌, Option, Some, None, List, [], ◌∷◌, map, length}
 use Rattle.xif_base.specs.declared.params.Key.{Key}
 use Rattle.xif_signals.specs.declared.bus.Bus.{Bus}
@@ -24,7 +25,8 @@ last_bus (b ∷ session) = b
 abbrev pub continues : (last : Bus) → List Use → Bus → Bool
 continues last uses b =
     issue_waits last
-    && (b.issue_valid && (same_key (issue_key last) (issue_key b) && not (has_killed (latest uses (issue_key b)))))
+    && (b.issue_valid && (same_key (issue_key last) (issue_key b)
+    && not (has_killed (latest uses (issue_key b)))))
 
 abbrev pub with_start : (cycle : ℕ) (last : Bus) → Bus → List Use → List Use
 with_start cycle last b uses =
@@ -42,16 +44,21 @@ change_latest key change (use' ∷ uses) =
 
 abbrev pub with_answer : Bus → List Use → List Use
 with_answer b uses =
-    if is_issued b then change_latest (issue_key b) (with_response true (response_on b)) uses else uses
+    if is_issued b then change_latest (issue_key b) (with_response true (response_on b)) uses
+    else uses
 
 abbrev pub with_registers : Bus → List Use → List Use
 with_registers b uses =
-    if is_given b then change_latest (register_key b) (with_operands true b.register_rs_valid) uses else uses
+    if is_given b
+    then change_latest (register_key b) (with_operands true b.register_rs_valid) uses
+    else uses
 
 -- an effective commit decides every undecided use of the hart from the named one on, or up to it
 abbrev pub decide_use : Bus → (start : ℕ) → Use → Use
 decide_use b start use' =
-    record use' { fact = with_decision (b.commit_hartid == use'.key.hart) start b.commit_kill use'.fact }
+    record use' {
+      fact = with_decision (b.commit_hartid == use'.key.hart) start b.commit_kill use'.fact;
+    }
 
 abbrev pub with_commit : Bus → Option ℕ → List Use → List Use
 with_commit b None uses = uses
@@ -76,4 +83,5 @@ uses_of (b ∷ session) = uses_after (length session) (last_bus session) b (uses
 abbrev pub none_in_flight : (profile : ℕ) → List Use → Key → Bool
 none_in_flight profile [] key = true
 none_in_flight profile (use' ∷ uses) key =
-    not (same_key use'.key key && is_in_flight profile (Some use'.fact)) && none_in_flight profile uses key
+    not (same_key use'.key key && is_in_flight profile (Some use'.fact))
+    && none_in_flight profile uses key

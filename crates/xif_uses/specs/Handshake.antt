@@ -13,4 +13,5 @@ waiting_key valid ready key = if valid && not ready then Some key else None
 -- What a cycle is: a transaction continues where one waited for the same key.
 abbrev pub phase_of : Option Key → (valid : Bool) → Key → Phase
 phase_of waiting valid key =
-    if valid then (if option_map_or (λ last. same_key last key) waiting false then Continues else Starts) else Idle
+    if valid then (if option_map_or (λ last. same_key last key) waiting false then Continues
+    else Starts) else Idle

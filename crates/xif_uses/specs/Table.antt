@@ -82,7 +82,8 @@ with_end latest = record latest { finished = true }
 
 -- each use started before this cycle
 abbrev pub StartsBefore : Table → ℕ → Type 0
-StartsBefore table cycle = (key : Key) → IsKey table.params key → IfSome (use_of table key) (λ entry. entry.start < cycle)
+StartsBefore table cycle =
+    (key : Key) → IsKey table.params key → IfSome (use_of table key) (λ entry. entry.start < cycle)
 
 -- a use behind a decision on the uses of its hart
 abbrev pub decided_use : (named : ℕ) → (kill : Bool) → Use → Use
@@ -95,13 +96,15 @@ decided_use named kill entry =
 pub record Decides (old new : Table) (hart named : ℕ) (kill : Bool) : Type 0 where
   pub params : new.params ≡ old.params
   pub uses : (k : Key) → IsKey old.params k
-      → use_of new k ≡ (if hart == k.hart then option_map (decided_use named kill) (use_of old k) else use_of old k)
+      → use_of new k ≡ (if hart == k.hart
+      then option_map (decided_use named kill) (use_of old k) else use_of old k)
 
 -- the facts that a table represents
 abbrev pub facts_in : Table → Facts
 facts_in table key = option_map fact_of (use_of table key)
 
--- What a commit does to the use that it names: it decides it, repeats or contradicts a decision, or is out of order.
+-- What a commit does to the use that it names: it decides it, repeats or contradicts a decision, or
+-- is out of order.
 abbrev pub answer_to : Decision → (kill is_in_order : Bool) → Decided
 answer_to Undecided kill is_in_order = if kill && not is_in_order then OutOfOrder else Taken
 answer_to Released kill is_in_order = if kill then WasReleased else Repeat
@@ -113,15 +116,18 @@ answer_by is_in_order kill (Some entry) = answer_to entry.decision kill is_in_or
 
 -- no use of the hart that started before this one was answered and is undecided
 abbrev pub is_first_pending : Table → (hart start : ℕ) → Bool
-is_first_pending table hart start = none_before (facts_in table) hart start (2 ^ table.params.id_width)
+is_first_pending table hart start =
+    none_before (facts_in table) hart start (2 ^ table.params.id_width)
 
 -- in profile 2 a kill of an undecided use has to be in order
 abbrev pub is_in_order : Table → Key → Option Use → Bool
 is_in_order table key None = true
-is_in_order table key (Some named) = not (table.params.profile == 2) || is_first_pending table key.hart named.start
+is_in_order table key (Some named) =
+    not (table.params.profile == 2) || is_first_pending table key.hart named.start
 
 abbrev pub answer_of : Table → Key → (kill : Bool) → Decided
-answer_of table key kill = answer_by (is_in_order table key (use_of table key)) kill (use_of table key)
+answer_of table key kill =
+    answer_by (is_in_order table key (use_of table key)) kill (use_of table key)
 
 -- where the uses of a hart were decided from this start on, or up to it; else nothing changed
 abbrev pub DecidesFrom : Table → Table → Key → (kill : Bool) → Option Use → Type 0
