@@ -47,6 +47,7 @@ x_hartid_width = 2
 x_dualread = 1
 x_dualwrite = 1
 x_issue_register_split = 0
+profile = 2
 [memory]
 base = 4294966272
 size = 1024
@@ -90,6 +91,7 @@ fn fields_are_what_the_file_says(rt: HostRuntime) -> Result<(), Fail> {
         dual_read: 1,
         dual_write: true,
         split: false,
+        profile: 2,
     };
     assert_eq!(rt; job.params, params);
     assert_eq!(rt; (job.base, job.size), (4_294_966_272, 1024));
