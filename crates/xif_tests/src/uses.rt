@@ -1,29 +1,23 @@
 //! The table of uses: one use from its start to its result, decisions of groups, and a cleared table;
 //! and the transactions of a channel.
-ghost use Rattle.xif_base.specs.Params.{IsInRange};
-
 use std::alloc::Global;
 use std::test::Fail;
 use xif_base::{Key, Params, ReadFlags, WriteFlags};
 use xif_uses::{Handshake, Phase, Response, UseTable};
 
 /// One hart with 8 ids, by the second profile.
-fn second_profile() -> Params
-    ensures { IsInRange result }
-{
-    Params {
-        num_rs: 2,
-        id_width: 3,
-        rfr_width: 32,
-        rfw_width: 32,
-        num_harts: 1,
-        hartid_width: 1,
-        dual_read: 0,
-        dual_write: false,
-        split: true,
-        profile: 2,
-    }
-}
+const PARAMS: Params = Params {
+    num_rs: 2,
+    id_width: 3,
+    rfr_width: 32,
+    rfw_width: 32,
+    num_harts: 1,
+    hartid_width: 1,
+    dual_read: 0,
+    dual_write: false,
+    split: true,
+    profile: 2,
+};
 
 /// A use of id 7, from its start to its result.
 #[test]
@@ -34,7 +28,7 @@ fn a_use_is_answered_and_finished(rt: HostRuntime) -> Result<(), Fail> {
 }
 
 fn text_of_one_use(alloc: Global) -> Result<String, Fail> {
-    let mut uses = UseTable::new(alloc, &second_profile())?;
+    let mut uses = UseTable::new(alloc, &PARAMS)?;
     let key = Key { hart: 0, id: 7 };
     let mut text = String::new(alloc);
     uses.start(key, 3, 0x0b);
@@ -70,43 +64,28 @@ fn groups_are_decided_in_order(rt: HostRuntime) -> Result<(), Fail> {
     Ok(())
 }
 
-/// The keys that commits name, by their ids, and whether they kill.
-const COMMITS: [(u16, bool); 6] = [
-    (5, true),
-    (1, true),
-    (1, false),
-    (1, false),
-    (0, true),
-    (0, false),
-];
-
 fn text_of_decisions(alloc: Global) -> Result<String, Fail> {
-    let mut uses = UseTable::new(alloc, &second_profile())?;
+    let mut uses = UseTable::new(alloc, &PARAMS)?;
     let first = Key { hart: 0, id: 0 };
+    let second = Key { hart: 0, id: 1 };
     let mut text = String::new(alloc);
     uses.start(first, 0, 0x0b);
     uses.response(first, ACCEPTS);
-    uses.start(Key { hart: 0, id: 1 }, 1, 0x0b);
-    for (id, kill) in &COMMITS {
-        let key = Key {
-            hart: 0,
-            id: *id & 7,
-        };
-        let decided = uses.decide(key, *kill);
-        writeln!(text, "{id} {kill} {decided:?}")?;
-    }
+    uses.start(second, 1, 0x0b);
+    writeln!(text, "{:?}", uses.decide(second, true))?;
+    writeln!(text, "{:?}", uses.decide(second, false))?;
+    writeln!(text, "{:?}", uses.decide(second, false))?;
+    writeln!(text, "{:?}", uses.decide(first, true))?;
     uses.clear();
     writeln!(text, "{:?}", uses.latest(first))?;
     Ok(text)
 }
 
 const DECISIONS: &str = "\
-5 true NoUse
-1 true OutOfOrder
-1 false Taken
-1 false Repeat
-0 true WasReleased
-0 false Repeat
+OutOfOrder
+Taken
+Repeat
+WasReleased
 None
 ";
 
