@@ -1,7 +1,7 @@
 -- The rules as tests, and the first fault of a cycle. Internal: the contracts of the judge's code
 -- cite these tests, and `rule_law` says that each is its rule; what has to be believed here is
 -- `fault_of`, the channel and the key that are reported of a rule that fails.
-use Rattle.std.specs.Prelude.{◌≡◌, ◌==◌, ◌&&◌, ◌||◌, ◌%◌, ◌^◌, ◌++◌, not, nat_lt, nat_le, ℕ, zero, suc, Bool, true, false, if◌then◌else◌, Option, Some, None, is_some, is_none, List, [], ◌∷◌, find, bit_and}
+use Rattle.std.specs.Prelude.{◌≡◌, ◌==◌, ◌&&◌, ◌||◌, ◌%◌, ◌^◌, ◌++◌, not, nat_lt, nat_le, ℕ, zero, suc, Bool, true, false, if◌then◌else◌, Option, Some, None, is_some, is_none, List, [], ◌∷◌, find, bit_and, Result, Ok, Err}
 use Rattle.std.specs.Option.{option_map, option_map_or}
 use Rattle.rv32_table.specs.Instr.{rd_field, source_field}
 use Rattle.xif_base.specs.declared.params.Key.{Key}
@@ -276,6 +276,11 @@ bus_rules = H1 ∷ (issue_rules ++ (register_rules ++ (commit_rules ++ result_ru
 -- the first fault of a cycle
 abbrev pub bus_fault : Params → Past → Bus → Option Fault
 bus_fault params p b = first_fault_in bus_rules params p b
+
+-- what a side of the judge returns by the first fault of its rules
+abbrev pub answer_of : Option Fault → Result Unit Fault
+answer_of None = Ok tt
+answer_of (Some fault) = Err fault
 
 -- A fault is the first one of a cycle: its rule fails, every rule before it holds, and its channel
 -- and key are those of its rule.

@@ -14,8 +14,10 @@
 
 mod fact;
 mod fault;
+mod idle;
 mod laws;
 
 pub use fact::{Decision, Fact, Response};
 pub use fault::Fault;
+pub use idle::idle_bus;
 pub use laws::{facts_law, fault_law, rule_law};

@@ -1,5 +1,5 @@
 -- What a table of uses holds, and which facts of a session it represents.
-use Rattle.std.specs.Prelude.{◌≡◌, ◌<◌, ◌+◌, ◌*◌, ◌^◌, ◌==◌, ◌&&◌, ◌||◌, ℕ, Bool, true, false, not, if◌then◌else◌, List, Option, Some, None, IfSome, slice_index_or}
+use Rattle.std.specs.Prelude.{◌≡◌, ◌<◌, ◌≤◌, ◌+◌, ◌*◌, ◌^◌, ◌==◌, ◌&&◌, ◌||◌, ℕ, Bool, true, false, not, if◌then◌else◌, List, Option, Some, None, IfSome, slice_index_or}
 use Rattle.std.specs.Option.{option_map}
 use Rattle.xif_base.specs.declared.params.Key.{Key}
 use Rattle.xif_base.specs.declared.params.Params.{Params}
@@ -84,6 +84,11 @@ with_end latest = record latest { finished = true }
 abbrev pub StartsBefore : Table → ℕ → Type 0
 StartsBefore table cycle =
     (key : Key) → IsKey table.params key → IfSome (use_of table key) (λ entry. entry.start < cycle)
+
+-- no use started later
+abbrev pub NoneLater : Table → ℕ → Type 0
+NoneLater table start =
+    (key : Key) → IsKey table.params key → IfSome (use_of table key) (λ entry. entry.start ≤ start)
 
 -- a use behind a decision on the uses of its hart
 abbrev pub decided_use : (named : ℕ) → (kill : Bool) → Use → Use

@@ -42,6 +42,13 @@ impl Handshake {
         Handshake { waiting: None }
     }
 
+    /// The key of the transaction that waits for ready.
+    pub fn waiting(&self) -> Option<Key>
+        ensures { result ≡ self.now }
+    {
+        self.waiting
+    }
+
     /// Takes a cycle.
     pub fn step(&mut self, valid: bool, ready: bool, key: Key) -> Phase
         ensures phase { result ≡ phase_of self.old valid key }
