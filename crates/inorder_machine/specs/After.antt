@@ -18,8 +18,8 @@ abbrev pub after : Extension → ℕ → State → Option State
 after x zero s = Some s
 after x (suc n) s = option_and_then (next_state x) (after x n s)
 
--- how many instructions retire within a budget: the greatest number not above it after which there is
--- a state
+-- how many instructions retire within a budget: the greatest number not above it after which there
+-- is a state
 abbrev pub retired_within : Extension → ℕ → State → ℕ
 retired_within x zero s = 0
 retired_within x (suc n) s = if is_some (after x (suc n) s) then suc n else retired_within x n s

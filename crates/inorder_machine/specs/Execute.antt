@@ -61,7 +61,8 @@ store_outcome at store None = Retired (line_of at write.None (Some store))
 store_outcome at store (Some fault.Misaligned) = Stop StoreMisaligned
 store_outcome at store (Some fault.Outside) = Stop StoreOutside
 
--- an instruction that jumps or branches: it writes this value to its target and goes there, or stops
+-- an instruction that jumps or branches: it writes this value to its target and goes there, or
+-- stops
 abbrev pub control_outcome : At → Instr → ℕ → Next → Stepped
 control_outcome at i value (Go next) = Retired (line_to at next (write_to (target_of i) value) None)
 control_outcome at i value (Misaligned target) = Stop TargetMisaligned

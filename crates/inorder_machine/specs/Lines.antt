@@ -1,5 +1,5 @@
--- What a line has to be, so that registers and memory can be moved on by it. Internal: conditions, and
--- what the contracts of private functions cite; nothing here has to be believed.
+-- What a line has to be, so that registers and memory can be moved on by it. Internal: conditions,
+-- and what the contracts of private functions cite; nothing here has to be believed.
 use Rattle.std.specs.Prelude.{◌≡◌, ◌<◌, ◌+◌, ℕ, Option, Some, None}
 use Rattle.rv32_table.specs.declared.instr.Instr.{Instr}
 use Rattle.rv32_table.specs.Instr.{NamesRegisters}

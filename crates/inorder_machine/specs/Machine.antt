@@ -18,14 +18,14 @@ use Rattle.inorder_machine.specs.declared.stop.StopCause.TheVariants.{Illegal, F
 use Rattle.inorder_machine.specs.Execute.{At, line_of, executed}
 use Rattle.inorder_machine.specs.Units.{lane_values, unit_write}
 
--- what words mean that are no instruction of RV32IM: a set of coprocessor units, and the parameters of the
--- interface
+-- what words mean that are no instruction of RV32IM: a set of coprocessor units, and the parameters
+-- of the interface
 pub record Extension : Type 0 where
   pub set : List UnitTable
   pub params : Params
 
--- the address of the next instruction, the registers x0 to x31, the memory, and the accumulators of the
--- units
+-- the address of the next instruction, the registers x0 to x31, the memory, and the accumulators of
+-- the units
 pub record State : Type 0 where
   pub pc : ℕ
   pub registers : List ℕ

@@ -24,8 +24,8 @@ list_of (Some register) = register ∷ []
 abbrev pub list_if : Bool → ℕ → List ℕ
 list_if holds register = if holds then register ∷ [] else []
 
--- the registers that a writeback names: rd by its first flag, and rd + 1 by its second; none where rd is
--- x0
+-- the registers that a writeback names: rd by its first flag, and rd + 1 by its second; none where
+-- rd is x0
 abbrev pub writeback_targets : ℕ → ℕ → List ℕ
 writeback_targets rd flags =
     if rd == 0 then [] else list_if (has_flag flags 0) rd ++ list_if (has_flag flags 1) (rd + 1)
@@ -38,8 +38,8 @@ abbrev pub decoded_targets : Extension → ℕ → Option Instr → List ℕ
 decoded_targets x word None = hit_targets word (hit_of x.set x.params word)
 decoded_targets x word (Some i) = list_of (target_of i)
 
--- the registers that a word writes: the target of an instruction of RV32IM, or what the writeback of an
--- entry names
+-- the registers that a word writes: the target of an instruction of RV32IM, or what the writeback
+-- of an entry names
 abbrev pub targets_of : Extension → ℕ → List ℕ
 targets_of x word = decoded_targets x word (decoded word)
 
@@ -59,7 +59,8 @@ DecodedReads x word register None = HitReads x.params word register (hit_of x.se
 DecodedReads x word register (Some i) =
     ((sources_of i).0 ≡ Some register) ⊎ ((sources_of i).1 ≡ Some register)
 
--- a word reads a register: as a source of an instruction of RV32IM, or by a half that its entry reads
+-- a word reads a register: as a source of an instruction of RV32IM, or by a half that its entry
+-- reads
 abbrev pub ReadsRegister : Extension → ℕ → ℕ → Type 0
 ReadsRegister x word register = DecodedReads x word register (decoded word)
 

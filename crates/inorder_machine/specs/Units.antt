@@ -1,5 +1,5 @@
--- What a word that the units take reads, and what its result writes (CV-X-IF 1.0.0, `register_read` and
--- `writeback` of the issue response).
+-- What a word that the units take reads, and what its result writes (CV-X-IF 1.0.0, `register_read`
+-- and `writeback` of the issue response).
 use Rattle.std.specs.Prelude.{◌+◌, ◌*◌, ◌%◌, ◌^◌, ◌/◌, ◌==◌, ◌&&◌, ℕ, Bool, true, false, List, [], ◌∷◌, Option, Some, None, nat_lt, if◌then◌else◌}
 use Rattle.std.specs.Option.{option_map_or}
 use Rattle.rv32_table.specs.Instr.{source_field}
@@ -25,8 +25,8 @@ abbrev pub is_read : Params → ℕ → ℕ → Half → Bool
 is_read p flags lane half =
     nat_lt lane p.num_rs && option_map_or (has_flag flags) (bit_of p lane half) false
 
--- the register that a half carries: in the low half that of the lane's field, and in the high half the odd
--- one behind it; behind x0 there is none
+-- the register that a half carries: in the low half that of the lane's field, and in the high half
+-- the odd one behind it; behind x0 there is none
 abbrev pub half_register : ℕ → Half → Option ℕ
 half_register field Low = Some field
 half_register field High = if field == 0 then None else Some (field + 1)
@@ -51,7 +51,8 @@ lane_values p reading word flags =
     ∷ lane_of p reading word flags 2
     ∷ []
 
--- the write of a result to rd, by whether rd gets its low half, and the register behind it its high half
+-- the write of a result to rd, by whether rd gets its low half, and the register behind it its high
+-- half
 abbrev pub halves_write : Bool → Bool → ℕ → ℕ → Write
 halves_write false false rd value = write.None
 halves_write true false rd value = write.One rd (low_half value)

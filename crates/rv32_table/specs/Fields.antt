@@ -1,5 +1,5 @@
--- The row of a word again, by the fields of the word: opcode, funct3 and funct7 (section 2.2). Internal: what
--- the contracts of private functions cite; nothing here has to be believed.
+-- The row of a word again, by the fields of the word: opcode, funct3 and funct7 (section 2.2).
+-- Internal: what the contracts of private functions cite; nothing here has to be believed.
 use Rattle.std.specs.Prelude.{◌==◌, ◌&&◌, ℕ, Bool, true, if◌then◌else◌, Option, find}
 use Rattle.rv32_table.specs.declared.rows.Row.{Row}
 use Rattle.rv32_table.specs.Word.{bits}

@@ -1,11 +1,11 @@
--- Which registers an instruction names, by its opcode and the format that the standard gives to that: a
--- second view of what the table says of each row, apart from it.
+-- Which registers an instruction names, by its opcode and the format that the standard gives to
+-- that: a second view of what the table says of each row, apart from it.
 use Rattle.std.specs.Prelude.{◌==◌, ℕ, Bool, Option, Some, None, List, [], ◌∷◌, if◌then◌else◌}
 use Rattle.std.specs.List.{list_any}
 use Rattle.rv32_table.specs.Word.{bits}
 
--- the opcodes of RV32IM by their names (chapter 24, table 24.1), without MISC-MEM (FENCE) and SYSTEM (ECALL
--- and EBREAK), which name no register
+-- the opcodes of RV32IM by their names (chapter 24, table 24.1), without MISC-MEM (FENCE) and
+-- SYSTEM (ECALL and EBREAK), which name no register
 abbrev pub load : ℕ
 load = 0x03
 
@@ -40,9 +40,9 @@ opcode_of word = bits word 6 0
 abbrev pub is_one_of : List ℕ → ℕ → Bool
 is_one_of opcodes opcode = list_any (λ o. o == opcode) opcodes
 
--- The formats (section 2.2): R-type has rd, rs1 and rs2, I-type rd and rs1, S-type and B-type rs1 and rs2,
--- U-type and J-type rd. OP is R-type; LOAD, OP-IMM and JALR are I-type; STORE is S-type; BRANCH is B-type;
--- LUI and AUIPC are U-type; JAL is J-type.
+-- The formats (section 2.2): R-type has rd, rs1 and rs2, I-type rd and rs1, S-type and B-type rs1
+-- and rs2, U-type and J-type rd. OP is R-type; LOAD, OP-IMM and JALR are I-type; STORE is S-type;
+-- BRANCH is B-type; LUI and AUIPC are U-type; JAL is J-type.
 abbrev pub has_rd : ℕ → Bool
 has_rd = is_one_of (op ∷ load ∷ op_imm ∷ jalr ∷ lui ∷ auipc ∷ jal ∷ [])
 

@@ -1,5 +1,5 @@
--- The instruction table of RV32IM (RISC-V Unprivileged ISA, version 20191213, chapters 2 and 7; the masks and
--- matches are the encodings of chapter 24).
+-- The instruction table of RV32IM (RISC-V Unprivileged ISA, version 20191213, chapters 2 and 7; the
+-- masks and matches are the encodings of chapter 24).
 use Rattle.std.specs.Prelude.{◌==◌, ◌+◌, ◌*◌, ◌/◌, ◌*ℤ◌, ◌-ℤ◌, ℕ, pos, Bool, true, false, not, nat_lt, bit_and, bit_or, bit_xor, List, [], ◌∷◌}
 use Rattle.std.specs.Int.RustNames.{int_lt}
 use Rattle.rv32_table.specs.declared.rows.Row.{Row}
@@ -21,8 +21,8 @@ pub data Reads : Type 0 where
   ReadsRs1 : Reads
   ReadsBoth : Reads
 
--- what an instruction computes from: the values of rs1 and rs2, its address, its immediate, and the number
--- in its rs2 field
+-- what an instruction computes from: the values of rs1 and rs2, its address, its immediate, and the
+-- number in its rs2 field
 pub record Operands : Type 0 where
   pub a : ℕ
   pub b : ℕ
@@ -34,8 +34,8 @@ pub record Operands : Type 0 where
 pub data Meaning : Type 0 where
   -- writes this value to rd
   Computes : (Operands → ℕ) → Meaning
-  -- reads so many bytes at rs1 plus the immediate, extends them to a word, by their sign or by 0, and
-  -- writes it to rd
+  -- reads so many bytes at rs1 plus the immediate, extends them to a word, by their sign or by 0,
+  -- and writes it to rd
   Loads : ℕ → Bool → Meaning
   -- writes so many low bytes of rs2 at rs1 plus the immediate
   Stores : ℕ → Meaning

@@ -39,8 +39,9 @@ shifted_left word amount = wrapped (word * 2 ^ (amount % 32))
 abbrev pub shifted_right : ℤ → ℕ → ℕ
 shifted_right z amount = to_word (int_div_euclid z (pos (2 ^ (amount % 32))))
 
--- Division rounds toward 0, and the remainder has the sign of the dividend (section 7.2). Of a division by 0 the
--- quotient has all bits set, and the remainder is the dividend. -2^31 by -1 is 2^31, which is -2^31 as a word.
+-- Division rounds toward 0, and the remainder has the sign of the dividend (section 7.2). Of a
+-- division by 0 the quotient has all bits set, and the remainder is the dividend. -2^31 by -1 is
+-- 2^31, which is -2^31 as a word.
 abbrev pub quotient : ℤ → ℤ → ℕ
 quotient dividend divisor =
     if int_eq divisor (pos 0) then 2 ^ 32 - 1 else to_word (int_div dividend divisor)

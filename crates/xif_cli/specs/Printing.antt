@@ -1,5 +1,5 @@
--- How texts are written and printed. Internal: what the contracts of private functions cite; nothing
--- here has to be believed.
+-- How texts are written and printed. Internal: what the contracts of private functions cite;
+-- nothing here has to be believed.
 use Rattle.std.specs.Prelude.{◌≡◌, ◌⊎◌, ◌++◌, ℕ, List, String, string_bytes}
 use Rattle.std.specs.declared.alloc.Global.{Global}
 use Rattle.xif_base.specs.declared.outside.Which.TheVariants as which

@@ -1,7 +1,7 @@
 -- The text of an image, after `$readmemh` of IEEE 1364-2005 (17.2.9), of bytes alone: its tokens,
 -- what a token says, and what the tokens place one after another. Its grammar is in Grammar.antt:
--- by the laws of the crate the tokens are the words of that grammar, so that how they are cut from the
--- text here need not be believed.
+-- by the laws of the crate the tokens are the words of that grammar, so that how they are cut from
+-- the text here need not be believed.
 use Rattle.std.specs.Prelude.{zero, suc, ◌+◌, ◌-◌, ◌==◌, ◌&&◌, ◌||◌, ℕ, List, [], ◌∷◌, length, take, drop, codes, nat_eq, nat_lt, nat_le, Bool, true, position, unwrap_or, Option, Some, None, Result, Ok, Err, if◌then◌else◌}
 use Rattle.std.specs.Char.{is_digit}
 use Rattle.std.specs.Option.{option_map}

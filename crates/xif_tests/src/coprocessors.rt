@@ -357,8 +357,8 @@ fn sets_are_checked_in_order(rt: HostRuntime) -> Result<(), Fail> {
     Ok(())
 }
 
-/// `num_rs`, `dual_read`, `dual_write` and a word; the numbers of the unit and of its entry that takes
-/// it, and the bits of what it reads and writes.
+/// `num_rs`, `dual_read`, `dual_write` and a word; the numbers of the unit and of its entry that
+/// takes it, and the bits of what it reads and writes.
 type Taken = (u8, u8, bool, u32, Option<(u8, u8, u8, u8)>);
 
 const BY_SEVEN: [Taken; 16] = [

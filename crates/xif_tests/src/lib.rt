@@ -1,5 +1,5 @@
-//! Tests of the libraries, by what they make public. They stand apart from the libraries so that each library is
-//! proved once, since one with tests of its own is proved with them and without.
+//! Tests of the libraries, by what they make public. They stand apart from the libraries so that
+//! each library is proved once, since one with tests of its own is proved with them and without.
 #![tactic(auto)]
 
 #[cfg(test)]

@@ -102,7 +102,8 @@ const SPOTS: [(Signal, Spot); 20] = [
     (Signal::RegisterRs2, Spot::Left),
 ];
 
-/// Two signals that have a fault: the first in the order of the table counts, whichever was set first.
+/// Two signals that have a fault: the first in the order of the table counts, whichever was set
+/// first.
 const BOTH: [(Signal, Spot); 2] = [
     (Signal::ResultWe, Spot::Named("d", 0, None)),
     (Signal::IssueValid, Spot::Named("same", 4, None)),

@@ -23,8 +23,8 @@ fn text_of_words(alloc: Global, words: &[u32]) -> Result<String, AllocError> {
     Ok(text)
 }
 
-/// The fields of an instruction, then kind, sources and target of one of its row with the registers 1, 2 and
-/// 3, and the target with rd 0.
+/// The fields of an instruction, then kind, sources and target of one of its row with the registers
+/// 1, 2 and 3, and the target with rd 0.
 fn write_instr(text: &mut String, word: u32, instr: &Instr) -> Result<(), AllocError> {
     let Instr {
         row,
@@ -287,7 +287,8 @@ fn branches_and_accesses_go_where_they_say(rt: HostRuntime) -> Result<(), Fail> 
     Ok(())
 }
 
-/// For each of the rows word, a, b, pc what comes next, and for each word of a load or store its access.
+/// For each of the rows word, a, b, pc what comes next, and for each word of a load or store its
+/// access.
 fn text_of_targets(alloc: Global) -> Result<String, AllocError> {
     let mut text = String::new(alloc);
     for [word, a, b, pc] in BRANCHES {

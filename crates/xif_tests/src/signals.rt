@@ -1,5 +1,5 @@
-//! The table of the signals, the channels of a bus, and which rule is reported where bits of a bus are
-//! unknown, as texts.
+//! The table of the signals, the channels of a bus, and which rule is reported where bits of a bus
+//! are unknown, as texts.
 ghost use Rattle.std.specs.Prelude.{◌≢◌, ◌≤◌};
 ghost use Rattle.xif_base.specs.Params.{IsInRange};
 ghost use Rattle.xif_signals.specs.declared.signal.Signal.TheVariants.{Clk};
@@ -60,8 +60,8 @@ fn text_of_table(alloc: Global) -> Result<String, AllocError> {
     Ok(text)
 }
 
-/// A line of the table: number, code, name, what Debug prints, and the widths under the smallest and the
-/// greatest parameters.
+/// A line of the table: number, code, name, what Debug prints, and the widths under the smallest
+/// and the greatest parameters.
 fn write_line(text: &mut String, signal: Signal) -> Result<(), AllocError> {
     let (number, code, name) = (signal.number(), char::from(signal.code()), signal.name());
     let least = signal.width(&smallest());
@@ -101,8 +101,8 @@ const TABLE: &str = "\
 28 = result_we result_we 1 2
 ";
 
-/// The valid and the key of each channel, the first channel that isn't valid, and whether the cycle is in a
-/// session.
+/// The valid and the key of each channel, the first channel that isn't valid, and whether the cycle
+/// is in a session.
 #[test]
 fn the_channels_of_a_bus(rt: HostRuntime) -> Result<(), Fail> {
     let text = text_of_channels(rt.alloc(), &CASES[1])?;

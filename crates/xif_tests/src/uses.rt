@@ -1,5 +1,5 @@
-//! The table of uses: one use from its start to its result, decisions of groups, and a cleared table;
-//! and the transactions of a channel.
+//! The table of uses: one use from its start to its result, decisions of groups, and a cleared
+//! table; and the transactions of a channel.
 use std::alloc::Global;
 use std::test::Fail;
 use xif_base::{Key, Params, ReadFlags, WriteFlags};
@@ -55,8 +55,8 @@ Taken Some(Use { start: 3, instr: 11, ongoing: false, \
     operands: Some(ReadFlags(1)), decision: Released, finished: false })
 ";
 
-/// A kill has to wait for the answered use before it; a release decides both; and a cleared table has
-/// no use.
+/// A kill has to wait for the answered use before it; a release decides both; and a cleared table
+/// has no use.
 #[test]
 fn groups_are_decided_in_order(rt: HostRuntime) -> Result<(), Fail> {
     let text = text_of_decisions(rt.alloc())?;

@@ -1,5 +1,5 @@
-//! A waveform with what it says, and one with its fault, whatever the pieces. The outcomes are those
-//! of an independent model of the format; tests/waveforms.txt has the other faults.
+//! A waveform with what it says, and one with its fault, whatever the pieces. The outcomes are
+//! those of an independent model of the format; tests/waveforms.txt has the other faults.
 
 use crate::pieces::read;
 use std::alloc::{AllocError, Global};

@@ -1,5 +1,5 @@
-//! The samples of small waveforms, whatever the pieces in which a text is read. They are those of an
-//! independent model of the format.
+//! The samples of small waveforms, whatever the pieces in which a text is read. They are those of
+//! an independent model of the format.
 ghost use Rattle.xif_base.specs.Params.{IsInRange};
 
 use crate::maps::{Spot, map_of, params_of_64_bits};
@@ -130,7 +130,8 @@ fn the_samples_of_a_text(rt: HostRuntime) -> Result<(), Fail> {
     check(&rt, rt.alloc(), PACKED, &map, &params, PACKED_SAMPLES)
 }
 
-// Values of a variable of 100 bits, of which some are extended by 0, x or z: bits 2 to 4, 0 to 63 and 36 to 99.
+// Values of a variable of 100 bits, of which some are extended by 0, x or z: bits 2 to 4, 0 to 63
+// and 36 to 99.
 
 const LONG: [&str; 14] = [
     "x",
