@@ -76,7 +76,8 @@ pub fn xif<S: Shelf, O: Out>(alloc: Global, words: &[String], shelf: &mut S, out
         ⊎ ((answer : Answer) × (Means words.now (found m) (Ok answer)
         × GrowsByFront (O.put_bytes out.old) (O.put_bytes out.new) answer.text)) }
     ensures refusal_writes_nothing { IsRefusal result → out.new ≡ out.old }
-    ensures shelf_is_only_read { OnlyReads S.files S.fetch_faults S.write_faults S.faultless shelf.old shelf.new }
+    ensures shelf_is_only_read { OnlyReads S.files S.fetch_faults S.write_faults S.faultless
+        shelf.old shelf.new }
 
     // A fault that is counted is reported.
     ensures fetch_fault_is_reported { (S.fetch_faults shelf.new ≡ S.fetch_faults shelf.old)
