@@ -2,3 +2,4 @@ pub mod Options
 pub mod RuleTests
 pub mod Places
 pub mod Whole
+pub mod Order

@@ -1,11 +1,12 @@
 -- All uses of a session, the newest first, older uses of a key among them: a second view, over the
 -- whole list. `facts_law` says that the latest uses that `Facts` keeps are those of this list, and
--- that I2 asks for no more.
-use Rattle.std.specs.Prelude.{ℕ, ◌==◌, ◌&&◌, not, Bool, true, false, if◌then◌else◌, Option, Some, None, List, [], ◌∷◌, map, length}
+-- that I2 and C3 ask for no more.
+use Rattle.std.specs.Prelude.{ℕ, ◌≡◌, ◌<◌, ◌≤◌, ◌^◌, ◌==◌, ◌&&◌, not, Bool, true, false, if◌then◌else◌, Option, Some, None, List, [], ◌∷◌, map, length, IsTrue}
 use Rattle.xif_base.specs.declared.params.Key.{Key}
+use Rattle.xif_base.specs.declared.params.Params.{Params}
 use Rattle.xif_signals.specs.declared.bus.Bus.{Bus}
 use Rattle.xif_session.specs.declared.fact.Fact.{Fact}
-use Rattle.xif_session.specs.Facts.{same_key, issue_key, register_key, commit_key, result_key, is_issued, is_given, is_taken, issue_waits, has_killed, is_in_flight, idle_bus, new_fact, with_response, with_operands, with_decision, with_end, response_on, undecided_start}
+use Rattle.xif_session.specs.Facts.{same_key, issue_key, register_key, commit_key, result_key, is_issued, is_given, is_taken, issue_waits, has_killed, is_in_flight, is_pending, idle_bus, new_fact, with_response, with_operands, with_decision, with_end, response_on, undecided_start}
 
 -- a use, and what is said of it
 pub record Use : Type 0 where
@@ -85,3 +86,16 @@ none_in_flight profile [] key = true
 none_in_flight profile (use' ∷ uses) key =
     not (same_key use'.key key && is_in_flight profile (Some use'.fact))
     && none_in_flight profile uses key
+
+-- the uses of a session with the one that a bus starts
+abbrev pub uses_with : List Bus → Bus → List Use
+uses_with session b = with_start (length session) (last_bus session) b (uses_of session)
+
+-- No use of a hart that started before this cycle was answered and is undecided, an older use of a
+-- key neither.
+abbrev pub NoneOlder : Params → List Use → (hart start : ℕ) → Type 0
+NoneOlder params [] hart start = Unit {0}
+NoneOlder params (use' ∷ uses) hart start =
+    (use'.key.hart ≡ hart → use'.key.id < 2 ^ params.id_width
+    → IsTrue (is_pending (Some use'.fact)) → start ≤ use'.fact.start)
+    × NoneOlder params uses hart start

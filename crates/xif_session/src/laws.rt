@@ -1,16 +1,16 @@
 //! What holds of every session: the rules' tests, the first fault of a cycle, and the latest uses.
-ghost use Rattle.std.specs.Prelude.{◌≡◌, ◌↔◌, List, not, true, None, Some};
+ghost use Rattle.std.specs.Prelude.{◌≡◌, ◌↔◌, ◌∷◌, ℕ, List, not, true, None, Some};
 ghost use Rattle.xif_base.specs.declared.params.Key.{Key};
 ghost use Rattle.xif_base.specs.declared.params.Params.{Params};
 ghost use Rattle.xif_base.specs.Params.{IsInRange};
 ghost use Rattle.xif_signals.specs.declared.bus.Bus.{Bus};
 ghost use Rattle.xif_signals.specs.declared.rule.Rule.{Rule};
 ghost use Rattle.xif_session.specs.declared.fault.Fault.{Fault};
-ghost use Rattle.xif_session.specs.Facts.{Past, past_of, is_in_flight};
-ghost use Rattle.xif_session.specs.Rules.{HoldsI2};
+ghost use Rattle.xif_session.specs.Facts.{Past, past_of, is_in_flight, named};
+ghost use Rattle.xif_session.specs.Rules.{HoldsI2, HoldsR3, NoneBefore};
 ghost use Rattle.xif_session.specs.Legal.{Holds, HoldsAll, EachCycle};
 ghost use Rattle.xif_session.specs.Tests.{keeps, bus_fault, IsFirstFault};
-ghost use Rattle.xif_session.specs.Uses.{latest, uses_of, none_in_flight};
+ghost use Rattle.xif_session.specs.Uses.{latest, uses_of, uses_with, none_in_flight, NoneOlder};
 
 /// A rule's test passes if and only if the rule holds.
 pub fn rule_law()
@@ -29,7 +29,8 @@ pub fn fault_law()
 
 /// The facts of a key are those of its latest use in the list of all uses of the session. If I2
 /// held so far, no use of the key is in flight if and only if the latest one isn't: older uses are
-/// over.
+/// over. If I2 of profile 2 and R3 held so far, a kill is in order among all uses if and only if it
+/// is among the latest ones: older uses don't wait for a decision.
 pub fn facts_law()
     ensures latest { (session : List Bus) (key : Key) →
         latest (uses_of session) key ≡ (past_of session).facts key }
@@ -37,4 +38,8 @@ pub fn facts_law()
         EachCycle (HoldsI2 params) session →
         none_in_flight params.profile (uses_of session) key
         ≡ not (is_in_flight params.profile ((past_of session).facts key)) }
+    ensures in_order { (params : Params) (session : List Bus) (b : Bus) (hart start : ℕ) →
+        params.profile ≡ 2 → EachCycle (HoldsI2 params) (b ∷ session) →
+        EachCycle HoldsR3 session → NoneOlder params (uses_with session b) hart start
+        ↔ NoneBefore params (named (past_of session) b) hart start }
 {}
