@@ -24,12 +24,10 @@ IsAt at (Stop cause) = Unit {0}
 
 load-at : (at : At) (i : Instr) (width : ℕ) (signed : Bool) (r : Result ℕ MemFault) → IsAt at (load_outcome at i width signed r)
 load-at at i width signed (Ok v) = (refl, refl)
-load-at at i width signed (Err fault.Misaligned) = tt
 load-at at i width signed (Err fault.Outside) = tt
 
 store-at : (at : At) (store : Store) (f : Option MemFault) → IsAt at (store_outcome at store f)
 store-at at store None = (refl, refl)
-store-at at store (Some fault.Misaligned) = tt
 store-at at store (Some fault.Outside) = tt
 
 control-at : (at : At) (i : Instr) (value : ℕ) (n : Next) → IsAt at (control_outcome at i value n)

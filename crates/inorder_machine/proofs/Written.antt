@@ -62,12 +62,10 @@ silent-target i s =
 
 load-writes : (at : At) (i : Instr) (width : ℕ) (signed : Bool) (r : Result ℕ MemFault) → Writes (list_of (target_of i)) (load_outcome at i width signed r)
 load-writes at i width signed (Ok v) = written-write_to (target_of i) _
-load-writes at i width signed (Err fault.Misaligned) = tt
 load-writes at i width signed (Err fault.Outside) = tt
 
 store-writes : (at : At) (i : Instr) (store : Store) (f : Option MemFault) → target_of i ≡ None → Writes (list_of (target_of i)) (store_outcome at store f)
 store-writes at i store None e = ap list_of (sym e)
-store-writes at i store (Some fault.Misaligned) e = tt
 store-writes at i store (Some fault.Outside) e = tt
 
 control-writes : (at : At) (i : Instr) (value : ℕ) (n : Next) → Writes (list_of (target_of i)) (control_outcome at i value n)

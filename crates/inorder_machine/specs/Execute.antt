@@ -18,7 +18,7 @@ use Rattle.inorder_machine.specs.declared.line.Store.{Store}
 use Rattle.inorder_machine.specs.declared.line.Stepped.{Stepped}
 use Rattle.inorder_machine.specs.declared.line.Stepped.TheVariants.{Retired, Stop}
 use Rattle.inorder_machine.specs.declared.stop.StopCause.{StopCause}
-use Rattle.inorder_machine.specs.declared.stop.StopCause.TheVariants.{Ecall, Ebreak, LoadOutside, StoreOutside, LoadMisaligned, StoreMisaligned, TargetMisaligned}
+use Rattle.inorder_machine.specs.declared.stop.StopCause.TheVariants.{Ecall, Ebreak, LoadOutside, StoreOutside, TargetMisaligned}
 
 -- an instruction where it is: its address, and its word
 pub record At : Type 0 where
@@ -52,13 +52,11 @@ extended width signed value = if signed then sign_extended (8 * width) value els
 abbrev pub load_outcome : At → Instr → ℕ → Bool → Result ℕ MemFault → Stepped
 load_outcome at i width signed (Ok value) =
     Retired (line_of at (write_to (target_of i) (extended width signed value)) None)
-load_outcome at i width signed (Err fault.Misaligned) = Stop LoadMisaligned
 load_outcome at i width signed (Err fault.Outside) = Stop LoadOutside
 
 -- an instruction that stores: it has this store, or stops
 abbrev pub store_outcome : At → Store → Option MemFault → Stepped
 store_outcome at store None = Retired (line_of at write.None (Some store))
-store_outcome at store (Some fault.Misaligned) = Stop StoreMisaligned
 store_outcome at store (Some fault.Outside) = Stop StoreOutside
 
 -- an instruction that jumps or branches: it writes this value to its target and goes there, or

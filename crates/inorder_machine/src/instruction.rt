@@ -49,7 +49,6 @@ fn load(memory: &Memory, pc: u32, word: u32, instr: &Instr, a: u32) -> Stepped
             let write = write_to(instr.target(), value);
             Stepped::Retired(line_of(pc, word, write, None))
         }
-        Err(MemFault::Misaligned) => Stepped::Stop(StopCause::LoadMisaligned),
         Err(MemFault::Outside) => Stepped::Stop(StopCause::LoadOutside),
     }
 }
@@ -65,7 +64,6 @@ fn store(memory: &Memory, pc: u32, word: u32, instr: &Instr, a: u32, b: u32) -> 
             let store = store_of(access.addr, access.width, b);
             Stepped::Retired(line_of(pc, word, Write::None, Some(store)))
         }
-        Err(MemFault::Misaligned) => Stepped::Stop(StopCause::StoreMisaligned),
         Err(MemFault::Outside) => Stepped::Stop(StopCause::StoreOutside),
     }
 }

@@ -19,10 +19,6 @@ pub enum StopCause {
     LoadOutside,
     /// A byte to be stored lies outside the memory (section 1.4).
     StoreOutside,
-    /// The address of a load is no multiple of its width, wherever it lies (section 2.6).
-    LoadMisaligned,
-    /// The address of a store is no multiple of its width, wherever it lies (section 2.6).
-    StoreMisaligned,
     /// The target of a jump or a taken branch is no multiple of 4. The jump or branch itself stops
     /// (section 2.5).
     TargetMisaligned,

@@ -4,7 +4,7 @@ use Rattle.std.specs.Fmt.{decimal, digits}
 use Rattle.std.specs.List.{enumerate_from, range_with_len, flat_map}
 use Rattle.std.specs.Int.{w32, from_le_bytes}
 use Rattle.inorder_machine.specs.declared.stop.StopCause.{StopCause}
-use Rattle.inorder_machine.specs.declared.stop.StopCause.TheVariants.{Ecall, Ebreak, Illegal, FetchOutside, LoadOutside, StoreOutside, LoadMisaligned, StoreMisaligned, TargetMisaligned}
+use Rattle.inorder_machine.specs.declared.stop.StopCause.TheVariants.{Ecall, Ebreak, Illegal, FetchOutside, LoadOutside, StoreOutside, TargetMisaligned}
 use Rattle.inorder_machine.specs.Machine.{State}
 use Rattle.xif_image.specs.Region.{Region}
 use lib.Chars.{codes}
@@ -31,8 +31,6 @@ end_word (Some Illegal) = codes "illegal"
 end_word (Some FetchOutside) = codes "fetch-outside"
 end_word (Some LoadOutside) = codes "load-outside"
 end_word (Some StoreOutside) = codes "store-outside"
-end_word (Some LoadMisaligned) = codes "load-misaligned"
-end_word (Some StoreMisaligned) = codes "store-misaligned"
 end_word (Some TargetMisaligned) = codes "target-misaligned"
 
 -- how the run ended, the address of the next instruction to retire, and how many retired

@@ -57,8 +57,6 @@ fn end_word(stop: Option<StopCause>) -> &'static str
         Some(StopCause::FetchOutside) => "fetch-outside",
         Some(StopCause::LoadOutside) => "load-outside",
         Some(StopCause::StoreOutside) => "store-outside",
-        Some(StopCause::LoadMisaligned) => "load-misaligned",
-        Some(StopCause::StoreMisaligned) => "store-misaligned",
         Some(StopCause::TargetMisaligned) => "target-misaligned",
     }
 }

@@ -5,7 +5,7 @@ use Rattle.std.proofs.lemmas.List.{drop_at, take_at, drop-take, take-take, take-
 use Rattle.std.proofs.lemmas.Slice.{drop-append-drop}
 use Rattle.std.specs.Int.{w32, from_le_bytes, to_le_bytes}
 use Rattle.xif_image.specs.declared.memory.MemFault.{MemFault}
-use Rattle.xif_image.specs.declared.memory.MemFault.TheVariants.{Misaligned, Outside}
+use Rattle.xif_image.specs.declared.memory.MemFault.TheVariants.{Outside}
 use Rattle.xif_image.specs.Region.{Region, IsWidth, fault_of, unless, bytes_at, loaded, overwritten, stored}
 
 -- bytes with others put over some of them are as many as before
@@ -62,7 +62,7 @@ number_cut width value (inr (inr e)) =
 -- what can be loaded stays the same
 fault_of-stored : (m : Region) (address width value other count : ℕ) → IsWidth width → fault_of m address width ≡ None → fault_of (stored m address width value) other count ≡ fault_of m other count
 fault_of-stored m address width value other count w h =
-    ap (λ n. if other % count == 0 then (if nat_le m.base other && nat_le (other + count) (m.base + n) then None else Some Outside) else Some Misaligned)
+    ap (λ n. if nat_le m.base other && nat_le (other + count) (m.base + n) then None else Some Outside)
     (length-stored m address width value w h)
 
 -- What was stored is loaded again, cut to the width.
@@ -71,7 +71,7 @@ loaded-stored m address width value w h =
     let lies = inside m address width h in
     let cut : length (take width (to_le_bytes w32 value)) ≡ width = length-cut width value w in
     let same : fault_of (stored m address width value) address width ≡ None =
-    ap (λ n. if address % width == 0 then (if nat_le m.base address && nat_le (address + width) (m.base + n) then None else Some Outside) else Some Misaligned)
+    ap (λ n. if nat_le m.base address && nat_le (address + width) (m.base + n) then None else Some Outside)
     (length-stored m address width value w h) ∙ h in
     let there : bytes_at (stored m address width value) address width ≡ take width (to_le_bytes w32 value) =
     ap (λ n. take n (drop (address - m.base) (stored m address width value).bytes)) (sym cut)

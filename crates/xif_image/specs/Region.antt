@@ -2,7 +2,7 @@
 use Rattle.std.specs.Prelude.{◌≡◌, ◌+◌, ◌-◌, ◌%◌, ◌==◌, ◌&&◌, ◌⊎◌, ◌++◌, ℕ, List, length, take, drop, Bool, Option, Some, None, Result, Ok, Err, nat_le, if◌then◌else◌}
 use Rattle.std.specs.Int.{w32, from_le_bytes, to_le_bytes}
 use Rattle.xif_image.specs.declared.memory.MemFault.{MemFault}
-use Rattle.xif_image.specs.declared.memory.MemFault.TheVariants.{Misaligned, Outside}
+use Rattle.xif_image.specs.declared.memory.MemFault.TheVariants.{Outside}
 
 -- the bytes from a base address on
 pub record Region : Type 0 where
@@ -18,13 +18,10 @@ abbrev pub is_inside : Region → ℕ → ℕ → Bool
 is_inside m address count =
     nat_le m.base address && nat_le (address + count) (m.base + length m.bytes)
 
--- why so many bytes from an address on can't be moved: the address is no multiple of their number,
--- or else one lies outside
+-- why so many bytes from an address on can't be moved: one of them lies outside. The address need
+-- not be a multiple of their number.
 abbrev pub fault_of : Region → ℕ → ℕ → Option MemFault
-fault_of m address width =
-    if address % width == 0
-    then (if is_inside m address width then None else Some Outside)
-    else Some Misaligned
+fault_of m address width = if is_inside m address width then None else Some Outside
 
 -- a value, if there is no fault
 abbrev pub unless : {A E : Type 0} → Option E → A → Result A E

@@ -26,13 +26,11 @@ impl Model for Memory {
     ghost invariant = { λ m. (vec_len m.bytes < 2 ^ 32) × (m.base + vec_len m.bytes ≤ 2 ^ 32) };
 }
 
-/// Why a load or a store can't be done. A misaligned one is reported as that, wherever it lies.
+/// Why a load or a store can't be done.
 #[derive(Clone, Copy, Debug, PartialEq, Eq)]
 pub enum MemFault {
     /// One of the bytes lies outside the memory.
     Outside,
-    /// The address is no multiple of the width.
-    Misaligned,
 }
 
 impl Memory {
@@ -80,8 +78,8 @@ impl Memory {
     }
 
     /// The number of `width` bytes at an address, little-endian and extended by 0 (RISC-V
-    /// Unprivileged ISA, section 2.6). It is refused where the address is no multiple of the width,
-    /// and else where a byte lies outside.
+    /// Unprivileged ISA, section 2.6). The address need not be a multiple of the width. A load is
+    /// refused if and only if one of the bytes lies outside, where addresses don't wrap around.
     pub fn load(&self, addr: u32, width: u8) -> Result<u32, MemFault>
         requires { IsWidth width }
         ensures loaded { result ≡ loaded self.now addr width }
@@ -119,6 +117,9 @@ impl Memory {
     pub fn word(&self, addr: u32) -> Option<u32>
         ensures { result ≡ word_at self.now addr }
     {
+        if addr % 4 != 0 {
+            return None;
+        }
         self.load(addr, 4).ok()
     }
 
@@ -127,9 +128,6 @@ impl Memory {
         requires { IsWidth width }
         ensures { result ≡ unless (fault_of self.now addr width) (addr - self.now.base) }
     {
-        if !is_aligned(addr, width) {
-            return Err(MemFault::Misaligned);
-        }
         if addr < self.base {
             return Err(MemFault::Outside);
         }
@@ -169,14 +167,6 @@ fn write_bytes(bytes: &mut [u8], base: u32, image: &[ByteAt])
     for byte in image {
         bytes[(byte.address - base) as usize] = byte.value;
     }
-}
-
-/// The address is a multiple of the width, which is a power of two.
-fn is_aligned(addr: u32, width: u8) -> bool
-    requires { IsWidth width }
-    ensures { result ≡ (addr % width == 0) }
-{
-    addr & (u32::from(width) - 1) == 0
 }
 
 fn overwrite(bytes: &mut [u8], at: usize, others: &[u8])

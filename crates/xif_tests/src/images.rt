@@ -7,25 +7,28 @@ use std::process::Abort;
 use std::test::Fail;
 use xif_image::{Image, ImageFault, MemFault, Memory};
 
-const LOADS: [(u32, u8, Result<u32, MemFault>); 12] = [
-    (0, 4, Ok(0x77)),
+const LOADS: [(u32, u8, Result<u32, MemFault>); 14] = [
+    (0, 4, Ok(0x00ab_cd77)),
     (4, 4, Ok(0x0102_0304)),
     (4, 1, Ok(4)),
     (7, 1, Ok(1)),
     (4, 2, Ok(0x0304)),
     (6, 2, Ok(0x0102)),
-    (2, 4, Err(MemFault::Misaligned)),
-    (7, 2, Err(MemFault::Misaligned)),
+    (2, 4, Ok(0x0304_00ab)),
+    (5, 2, Ok(0x0203)),
+    (5, 4, Err(MemFault::Outside)),
+    (7, 2, Err(MemFault::Outside)),
     (8, 1, Err(MemFault::Outside)),
     (8, 4, Err(MemFault::Outside)),
     (0xffff_fffc, 4, Err(MemFault::Outside)),
-    (0xffff_fffe, 4, Err(MemFault::Misaligned)),
+    (0xffff_fffe, 4, Err(MemFault::Outside)),
 ];
 
-const STORES: [(u32, u8, u32, Result<(), MemFault>); 4] = [
+const STORES: [(u32, u8, u32, Result<(), MemFault>); 5] = [
     (4, 4, 0x0102_0304, Ok(())),
     (0, 1, 0xffff_ff77, Ok(())),
-    (3, 2, 0x5555, Err(MemFault::Misaligned)),
+    (1, 2, 0xffff_abcd, Ok(())),
+    (6, 4, 0x5555, Err(MemFault::Outside)),
     (8, 4, 0x5555, Err(MemFault::Outside)),
 ];
 
@@ -62,7 +65,7 @@ fn a_memory_is_little_endian_and_refuses_what_lies_outside(rt: HostRuntime) -> R
         stores_are(&rt, &mut memory, &[(4, 4, 0, Ok(()))]);
         loads_are(&rt, &copy, &LOADS);
         assert_eq!(rt; (copy.base(), copy.size()), (base, 8));
-        assert_eq!(rt; copy.bytes(), [0x77, 0, 0, 0, 4, 3, 2, 1].as_slice());
+        assert_eq!(rt; copy.bytes(), [0x77, 0xcd, 0xab, 0, 4, 3, 2, 1].as_slice());
     }
     Ok(())
 }
