@@ -7,6 +7,8 @@ mod base;
 #[cfg(test)]
 mod coprocessors;
 #[cfg(test)]
+mod drive;
+#[cfg(test)]
 mod images;
 #[cfg(test)]
 mod judge;

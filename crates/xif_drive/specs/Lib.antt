@@ -1,0 +1,2 @@
+pub mod Predictors
+pub mod Scripts
