@@ -12,11 +12,11 @@ use Rattle.xif_session.specs.declared.fact.Fact.{Fact}
 use Rattle.xif_session.specs.Facts.{Facts, same_key}
 use Rattle.xif_session.proofs.Options.{key_is, key_same, no_true}
 use Rattle.xif_uses.specs.declared.entry.Use.{Use}
-use Rattle.xif_uses.specs.declared.table.Slot.{Slot}
+use Rattle.xif_uses.specs.declared.places.Slot.{Slot}
 use Rattle.xif_uses.specs.Slots.{live, empty_slot}
 use Rattle.xif_uses.specs.Table.{Table, IsKey, Represents, Sets, place_of, use_of, fact_of}
 
-three : (a b : ℕ) → (P : Type 0) → (a < b → P) → (a ≡ b → P) → (b < a → P) → P
+pub three : (a b : ℕ) → (P : Type 0) → (a < b → P) → (a ≡ b → P) → (b < a → P) → P
 three zero zero P f g h = g refl
 three zero (suc b) P f g h = f (omega arith)
 three (suc a) zero P f g h = h (omega arith)
