@@ -1,24 +1,24 @@
 -- What the orders say of decisions, of starts and of what is pending.
-use Rattle.std.proofs.Common.{◌≡◌, ◌≢◌, ◌<◌, ◌≤◌, ◌+◌, ◌-◌, ◌^◌, ◌==◌, ◌&&◌, ◌++◌, not, ℕ, Bool, true, false, if◌then◌else◌, Option, Some, None, List, [], ◌∷◌, length, refl, sym, ap, ◌∙◌, subst, arith, IsTrue}
-use Rattle.std.specs.Prelude.{slice_index_or, nat_le, is_some, IfSome}
+use Rattle.std.proofs.Common.{◌≡◌, ◌<◌, ◌≤◌, ◌-◌, ◌^◌, ◌==◌, ◌&&◌, ◌++◌, ℕ, Bool, true, false, if◌then◌else◌, Option, Some, None, List, [], ◌∷◌, length, refl, sym, ap, ◌∙◌, subst, arith, IsTrue}
+use Rattle.std.specs.Prelude.{nat_le, is_some, IfSome}
 use Rattle.std.specs.Option.{option_map, option_map_or}
-use Rattle.std.proofs.lemmas.Bool.{eqb-true, eqb-false, eq-eqb, ne_eqb}
+use Rattle.std.proofs.lemmas.Bool.{eqb-true, eq-eqb}
 use Rattle.std.proofs.lemmas.Bool.Decides.{nat_tests}
 use Rattle.std.proofs.lemmas.List.{length_push}
 use Rattle.xif_base.specs.declared.params.Key.{Key}
 use Rattle.xif_base.specs.declared.params.Params.{Params}
 use Rattle.xif_session.specs.declared.fact.Fact.{Fact}
 use Rattle.xif_session.specs.declared.fact.Decision.{Decision}
-use Rattle.xif_session.specs.Facts.{same_key, undecided_start, is_undecided, is_covered, is_pending, verdict_of}
+use Rattle.xif_session.specs.Facts.{same_key, undecided_start, is_undecided, is_covered, is_pending}
 use Rattle.xif_session.specs.Tests.{none_before}
-use Rattle.xif_session.proofs.Options.{key_is, key_same, no_true, and-true, both-true}
+use Rattle.xif_session.proofs.Options.{key_is, no_true, and-true, both-true}
 use Rattle.xif_session.proofs.RuleTests.{before_in, before_out}
 use Rattle.xif_uses.specs.declared.entry.Use.{Use}
 use Rattle.xif_uses.specs.declared.undecided.Offer.{Offer}
 use Rattle.xif_uses.specs.Order.{InOrder, IsOrder, Removes, Rises, start_of, with_start, offer_at, end_of, decided_as}
-use Rattle.xif_uses.specs.Table.{Table, IsKey, Sets, Decides, StartsBefore, use_of, fact_of, facts_in, decided_use}
+use Rattle.xif_uses.specs.Table.{Table, IsKey, Sets, StartsBefore, use_of, fact_of, facts_in, decided_use}
 use Rattle.xif_uses.proofs.Slots.{three}
-use Rattle.xif_uses.proofs.Ordered.{in_order_same, removed, pushed, fits, with_same, with_other}
+use Rattle.xif_uses.proofs.Ordered.{in_order_same, removed, pushed, fits, with_same}
 use Rattle.xif_uses.proofs.Orders.{start_in, start_after}
 
 some_is : (a b : ℕ) → Some a ≡ Some b → a ≡ b
@@ -79,20 +79,25 @@ has_room table key start offers k s o =
     let l = fits (2 ^ table.params.id_width) _ (offers ++ record { start = start; id = key.id } ∷ []) (with_newest table key start offers k s o) in
     let n = length_push offers (record { start = start; id = key.id }) in omega arith
 
--- the old use of the key is taken out
-pub withdrawn : (table : Table) (key : Key) (entry : Use) (old new : List Offer) → IsKey table.params key → IsOrder table key.hart old → use_of table key ≡ Some entry → is_undecided entry.decision ≡ true
-    → ((k : ℕ) → k < length old → (offer_at old k).start ≡ entry.start → Removes old new k)
-    → InOrder (2 ^ table.params.id_width) (with_start key.id None (start_of table key.hart)) new
-withdrawn table key entry old new k o e u removes = go (o.complete key.id entry.start k.id here)
+-- where the old use of the key stands
+pub stands : (table : Table) (key : Key) (entry : Use) (offers : List Offer) → IsKey table.params key → IsOrder table key.hart offers → use_of table key ≡ Some entry → is_undecided entry.decision ≡ true
+    → (k : ℕ) × ((k < length offers) × ((offer_at offers k).start ≡ entry.start) × ((offer_at offers k).id ≡ key.id))
+stands table key entry offers k o e u = go (o.complete key.id entry.start k.id here)
   where
     here : start_of table key.hart key.id ≡ Some entry.start
     here = open_out (use_of table key) entry e u
 
-    go : (m : ℕ) × ((m < length old) × ((offer_at old m).id ≡ key.id)) → InOrder (2 ^ table.params.id_width) (with_start key.id None (start_of table key.hart)) new
-    go m =
-        let s : (offer_at old m.0).start ≡ entry.start = some_is (offer_at old m.0).start entry.start (sym (o.listed m.0 m.1.0) ∙ ap (start_of table key.hart) m.1.1 ∙ here) in
-        subst (λ id. InOrder (2 ^ table.params.id_width) (with_start id None (start_of table key.hart)) new) m.1.1
-        (removed (2 ^ table.params.id_width) (start_of table key.hart) old new m.0 o (removes m.0 m.1.0 s))
+    go : (m : ℕ) × ((m < length offers) × ((offer_at offers m).id ≡ key.id)) → (k : ℕ) × ((k < length offers) × ((offer_at offers k).start ≡ entry.start) × ((offer_at offers k).id ≡ key.id))
+    go m = (m.0, (m.1.0, some_is (offer_at offers m.0).start entry.start (sym (o.listed m.0 m.1.0) ∙ ap (start_of table key.hart) m.1.1 ∙ here), m.1.1))
+
+-- and what is left without it
+pub withdrawn : (table : Table) (key : Key) (entry : Use) (old new : List Offer) → IsKey table.params key → IsOrder table key.hart old → use_of table key ≡ Some entry → is_undecided entry.decision ≡ true
+    → ((k : ℕ) → k < length old → (offer_at old k).start ≡ entry.start → Removes old new k)
+    → InOrder (2 ^ table.params.id_width) (with_start key.id None (start_of table key.hart)) new
+withdrawn table key entry old new k o e u removes =
+    let m = stands table key entry old k o e u in
+    subst (λ id. InOrder (2 ^ table.params.id_width) (with_start id None (start_of table key.hart)) new) m.1.2
+    (removed (2 ^ table.params.id_width) (start_of table key.hart) old new m.0 o (removes m.0 m.1.0 m.1.1))
 
 -- ---- a decision
 

@@ -1,19 +1,16 @@
 -- The orders of all harts, under the changes of the table.
-use Rattle.std.proofs.Common.{◌≡◌, ◌≢◌, ◌<◌, ◌≤◌, ◌+◌, ◌^◌, ◌==◌, ◌&&◌, ℕ, Bool, true, false, if◌then◌else◌, Option, Some, None, List, [], length, slice_set, refl, sym, ap, ◌∙◌, subst, arith}
+use Rattle.std.proofs.Common.{◌≡◌, ◌≢◌, ◌<◌, ◌≤◌, ◌^◌, ◌==◌, ◌&&◌, ℕ, Bool, true, false, if◌then◌else◌, Option, None, List, [], length, slice_set, refl, sym, ap, ◌∙◌, subst}
 use Rattle.std.specs.Prelude.{slice_index_or}
 use Rattle.std.specs.Option.{option_map}
 use Rattle.std.proofs.lemmas.Bool.{eqb-true, eqb-false, eq-eqb, ne_eqb}
 use Rattle.std.proofs.lemmas.List.{get_or-set_same, get_or-set_other, get_or_default, length-set}
 use Rattle.xif_base.specs.declared.params.Key.{Key}
 use Rattle.xif_base.specs.declared.params.Params.{Params}
-use Rattle.xif_session.specs.Facts.{same_key, undecided_start, is_undecided}
-use Rattle.xif_session.proofs.Options.{key_is, no_true}
+use Rattle.xif_session.specs.Facts.{undecided_start}
 use Rattle.xif_uses.specs.declared.entry.Use.{Use}
-use Rattle.xif_uses.specs.declared.undecided.Offer.{Offer}
 use Rattle.xif_uses.specs.Order.{Order, InOrder, IsOrder, AreOrders, start_of, with_start, order_at}
-use Rattle.xif_uses.specs.Table.{Table, IsKey, Represents, Sets, use_of, fact_of, facts_in}
+use Rattle.xif_uses.specs.Table.{Table, IsKey, Represents, Sets, fact_of}
 use Rattle.xif_uses.proofs.Ordered.{in_order_same, in_order_none}
-use Rattle.xif_uses.proofs.Slots.{three}
 
 -- the start of a use that isn't there, or is decided, or is undecided
 abbrev pub start_in : Option Use → Option ℕ

@@ -10,7 +10,7 @@ use std::marker::Model;
 use xif_base::NoMemory;
 
 /// An undecided use of a hart.
-#[derive(Clone, Copy, Debug, PartialEq, Eq)]
+#[derive(Clone, Copy, Debug)]
 pub struct Offer {
     /// The cycle in which its issue transaction starts.
     pub start: u64,
@@ -90,14 +90,13 @@ impl Undecided {
     /// mostly: an offer that was retracted is near the newest, and one that the core never decides
     /// near the oldest.
     pub fn remove(&mut self, start: u64)
-        requires { Rises self.old.offers }
+        requires rises { Rises self.old.offers }
+        requires there { (k : ℕ) × ((k < length self.old.offers)
+            × ((offer_at self.old.offers k).start ≡ start)) }
         ensures room { self.new.room ≡ self.old.room }
         ensures offers { (k : ℕ) → k < length self.old.offers →
             (offer_at self.old.offers k).start ≡ start → Removes self.old.offers self.new.offers k }
     {
-        if self.is_stale {
-            return;
-        }
         let index = self.offers.partition_point(|offer| offer.start < start);
         self.offers.remove(index);
     }

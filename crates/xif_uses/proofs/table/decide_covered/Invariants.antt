@@ -1,4 +1,4 @@
-use Rattle.std.proofs.Common.{◌≡◌, ◌==◌, ℕ, length, if◌then◌else◌}
+use Rattle.std.proofs.Common.{◌≡◌, ◌==◌, length, if◌then◌else◌}
 use Rattle.std.specs.Option.{option_map}
 use Rattle.xif_base.specs.declared.params.Key.{Key}
 use Rattle.xif_uses.specs.Order.{IsOrder}

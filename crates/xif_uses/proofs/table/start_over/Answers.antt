@@ -1,4 +1,4 @@
-use Rattle.std.proofs.Common.{◌≡◌, ◌<◌, ◌∙◌, ◌^◌, ◌++◌, ◌∷◌, [], List, Some, length, ap, sym, subst, arith}
+use Rattle.std.proofs.Common.{◌^◌, List, Some, ap, sym, subst, arith}
 use Rattle.xif_uses.specs.declared.undecided.Offer.{Offer}
 use Rattle.xif_uses.specs.Order.{Order, InOrder, start_of, with_start}
 use Rattle.xif_uses.proofs.Decisions.{with_newest, has_room}

@@ -1,9 +1,8 @@
-use Rattle.std.proofs.Common.{◌≡◌, ◌<◌, ◌+◌, ◌∙◌, ℕ, List, length, sym, ap, subst, arith}
-use Rattle.std.specs.Prelude.{None, slice_index_or}
+use Rattle.std.proofs.Common.{◌≡◌, ◌+◌, ◌∙◌, List, length, sym, ap, subst, arith}
+use Rattle.std.specs.Prelude.{None}
 use Rattle.std.specs.Vec.{with_items}
 use Rattle.std.proofs.lemmas.List.{with_items_is}
 use Rattle.xif_uses.specs.declared.places.Slot.{Slot}
-use Rattle.xif_uses.specs.Slots.{empty_slot}
 use Rattle.xif_uses.specs.Table.{Table, Represents}
 use Rattle.xif_uses.proofs.Slots.{table_of, none_empty, none_older}
 use Rattle.xif_uses.proofs.places.Places.clear.Goals as goal

@@ -1,5 +1,5 @@
 use Rattle.std.proofs.Common.{◌≡◌, ℕ, Some, slice_set, subst, sym}
-use Rattle.xif_uses.specs.Table.{Table, IsKey, Sets, place_of}
+use Rattle.xif_uses.specs.Table.{IsKey, Sets, place_of}
 use Rattle.xif_uses.proofs.Slots.{table_of, set_one}
 use Rattle.xif_uses.proofs.places.Places.put.Goals as goal
 

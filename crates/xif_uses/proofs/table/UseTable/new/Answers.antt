@@ -1,4 +1,4 @@
-use Rattle.std.proofs.Common.{◌≡◌, ◌<◌, ◌≤◌, ◌^◌, ◌∙◌, ℕ, [], sym, ap, subst, arith}
+use Rattle.std.proofs.Common.{◌≡◌, ◌<◌, sym, ap, subst, arith}
 use Rattle.xif_uses.specs.Order.{Order, order_at}
 use Rattle.xif_uses.proofs.Orders.{orders_none}
 use Rattle.xif_uses.proofs.table.UseTable.new.Goals as goal

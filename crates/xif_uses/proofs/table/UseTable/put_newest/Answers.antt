@@ -1,6 +1,6 @@
 use Rattle.std.proofs.Common.{◌≡◌, ◌∙◌, ◌^◌, ℕ, Some, None, if◌then◌else◌, slice_set, sym, ap, subst}
 use Rattle.xif_session.specs.Facts.{is_undecided}
-use Rattle.xif_uses.specs.Order.{InOrder, AreOrders, start_of, with_start}
+use Rattle.xif_uses.specs.Order.{AreOrders, start_of, with_start}
 use Rattle.xif_uses.specs.Table.{Table, IsKey}
 use Rattle.xif_uses.proofs.Ordered.{in_order_same}
 use Rattle.xif_uses.proofs.Orders.{start_after, start_elsewhere, start_in, orders_set, order_found, found_in_order}

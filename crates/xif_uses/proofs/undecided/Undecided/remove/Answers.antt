@@ -1,4 +1,4 @@
-use Rattle.std.proofs.Common.{◌≡◌, ◌<◌, ◌+◌, ◌∙◌, ℕ, [], List, true, false, if◌then◌else◌, length, sym, ap, subst, rules, arith}
+use Rattle.std.proofs.Common.{◌≡◌, ◌<◌, ◌+◌, ◌∙◌, ℕ, Bool, [], List, true, false, if◌then◌else◌, length, refl, sym, ap, subst, rules, arith}
 use Rattle.std.specs.Prelude.{nat_lt, OnSome}
 use Rattle.std.proofs.lemmas.List.Sorted.{IsPartitionPoint-from_clause}
 use Rattle.xif_uses.specs.declared.undecided.Offer.{Offer}
@@ -6,12 +6,17 @@ use Rattle.xif_uses.specs.Order.{Order, Removes, Rises, offer_at}
 use Rattle.xif_uses.proofs.Search.{parted, point_is}
 use Rattle.xif_uses.proofs.undecided.Undecided.remove.Goals as goal
 
+in_use : (is_stale : Bool) (offers : List Offer) (k : ℕ) → k < length (if is_stale then [] else offers) → is_stale ≡ false
+in_use true offers k l = absurd (omega arith)
+in_use false offers k l = refl
+
 pub returns-clause-offers : goal.returns-clause-offers
 returns-clause-offers c k l e =
     let x = c.self.inside in
+    let fresh : x.is_stale ≡ false = in_use x.is_stale x.offers.items c.requires.there.0 (subst (λ (s : List Offer). c.requires.there.0 < length s) (sym (ap (λ (o : Order). o.offers) c.self.view_is)) c.requires.there.1.0) in
     let w : c.args.self.now.offers ≡ x.offers.items =
-    sym (ap (λ (o : Order). o.offers) c.self.view_is) ∙ ap (λ t. if t then [] else x.offers.items) c.if-self.false in
-    let r : Rises x.offers.items = subst Rises w c.requires in
+    sym (ap (λ (o : Order). o.offers) c.self.view_is) ∙ ap (λ t. if t then [] else x.offers.items) fresh in
+    let r : Rises x.offers.items = subst Rises w c.requires.rises in
     let inside : k < length x.offers.items = subst (λ (s : List Offer). k < length s) w l in
     let here : (offer_at x.offers.items k).start ≡ c.args.start = subst (λ (s : List Offer). (offer_at s k).start ≡ c.args.start) w e in
     let point =
@@ -29,5 +34,5 @@ returns-clause-offers c k l e =
       after = λ i b m. c.remove.ensures.above i (record { start = 0; id = 0 }) b (omega arith);
     } in
     subst (λ (s : List Offer). Removes s (if x.is_stale then [] else c.remove.new.self.items) k) (sym w)
-    (subst (λ (s : List Offer). Removes x.offers.items s k) (sym (ap (λ t. if t then [] else c.remove.new.self.items) c.if-self.false))
+    (subst (λ (s : List Offer). Removes x.offers.items s k) (sym (ap (λ t. if t then [] else c.remove.new.self.items) fresh))
     (subst (λ n. Removes x.offers.items c.remove.new.self.items n) at taken))
