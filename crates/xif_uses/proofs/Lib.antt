@@ -1,1 +1,5 @@
-pub mod Places
+pub mod Slots
+pub mod Ordered
+pub mod Orders
+pub mod Decisions
+pub mod Search

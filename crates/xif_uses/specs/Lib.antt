@@ -1,3 +1,4 @@
 pub mod Slots
+pub mod Order
 pub mod Table
 pub mod Handshake

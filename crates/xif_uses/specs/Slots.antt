@@ -1,7 +1,7 @@
 -- Internal: how the places of a table are kept.
 use Rattle.std.specs.Prelude.{◌==◌, ℕ, if◌then◌else◌, Option, None}
 use Rattle.xif_uses.specs.declared.entry.Use.{Use}
-use Rattle.xif_uses.specs.declared.table.Slot.{Slot}
+use Rattle.xif_uses.specs.declared.places.Slot.{Slot}
 
 -- what a place holds, where it was written in this session
 abbrev pub live : (session written : ℕ) → Option Use → Option Use

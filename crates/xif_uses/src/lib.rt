@@ -10,7 +10,9 @@
 
 mod entry;
 mod handshake;
+mod places;
 mod table;
+mod undecided;
 
 pub use entry::Use;
 pub use handshake::{Handshake, Phase};

@@ -1,17 +1,18 @@
-//! The latest use of each key.
-ghost use Rattle.std.specs.Prelude.{◌≡◌, ◌≢◌, ◌==◌, ◌||◌, not, ◌<◌, ◌+◌, ◌*◌, ◌^◌, ℕ, List, Option, Some, None, true, false, length, replicate, IfOk, IfSome, IsSomeAnd, slice_index_or};
-ghost use Rattle.std.specs.Option.{option_map};
+//! The latest use of each key, and the order of those that are undecided.
+ghost use Rattle.std.specs.Prelude.{◌≡◌, ◌≢◌, ◌==◌, ◌||◌, not, ◌<◌, ◌≤◌, ◌^◌, ℕ, [], Option, Some, None, is_some, true, false, length, IfOk, IfSome, IsSomeAnd};
+ghost use Rattle.std.specs.Option.{option_map, option_map_or};
 ghost use Rattle.xif_base.specs.declared.params.Params.{Params};
 ghost use Rattle.xif_base.specs.Params.{IsInRange};
 ghost use Rattle.xif_session.specs.Facts as session;
 ghost use Rattle.xif_session.specs.Facts.{Facts};
 ghost use Rattle.xif_session.specs.Rules.{MayFinish};
-ghost use Rattle.xif_uses.specs.declared.table.Slot.{Slot};
-ghost use Rattle.xif_uses.specs.Slots.{empty_slot};
+ghost use Rattle.xif_uses.specs.Order.{InOrder, IsOrder, start_of, with_start, order_at, decided_as};
 ghost use Rattle.xif_uses.specs.Table as spec;
 ghost use Rattle.xif_uses.specs.Table.{IsKey, Represents, Sets, Decides, StartsBefore, use_of};
 
 use crate::entry::Use;
+use crate::places::Places;
+use crate::undecided::{Offer, Undecided};
 use std::alloc::Global;
 use std::marker::Model;
 use xif_base::{Key, NoMemory, Params, ReadFlags};
@@ -34,47 +35,26 @@ pub enum Decided {
     OutOfOrder,
 }
 
-/// A place of the table. What it holds counts in the session in which it was written.
-#[derive(Clone, Copy, Debug)]
-struct Slot {
-    session: u64,
-    latest: Option<Use>,
-}
-
-const EMPTY: Slot = Slot {
-    session: 0,
-    latest: None,
-};
-
 /// The latest use of each key.
 ///
-/// `new` takes all memory that the table ever takes: a place for each key of the interface.
+/// `new` takes all memory that the table ever takes: a place for each key of the interface, and
+/// for each hart an order of as many undecided uses as it has ids.
 #[derive(Debug, Drop)]
 pub struct UseTable {
-    params: Params,
-    /// The number of the session. The slots of other sessions are empty, so that `clear` need not
-    /// visit them.
-    session: u64,
-    /// Hart by hart, and id by id.
-    slots: Vec<Slot>,
+    places: Places,
+    /// Hart by hart: a decision visits only the uses that it decides.
+    undecided: Vec<Undecided>,
 }
 
 impl Model for UseTable {
-    ghost use Rattle.std.specs.Prelude.{◌≡◌, ◌≢◌, ◌==◌, ◌||◌, not, ◌≤◌, ◌*◌, ◌^◌, length, map, All};
-    ghost use Rattle.xif_base.specs.Params.{IsInRange};
     ghost use Rattle.xif_uses.specs.Table.{Table};
-    ghost use Rattle.xif_uses.specs.Slots.{live};
+    ghost use Rattle.xif_uses.specs.Order.{AreOrders};
 
     ghost Value = { Table };
 
-    ghost view = { λ t. record {
-      params = t.params;
-      uses = map (λ slot. live t.session slot.session slot.latest) t.slots.items;
-    } };
+    ghost view = { λ t. t.places };
 
-    ghost invariant = { λ t. IsInRange t.params
-        × ((length t.slots.items ≡ t.params.num_harts * 2 ^ t.params.id_width)
-        × All (λ slot. slot.session ≤ t.session) t.slots.items) };
+    ghost invariant = { λ t. AreOrders t.places t.undecided.items };
 }
 
 impl UseTable {
@@ -83,11 +63,9 @@ impl UseTable {
         requires { IsInRange params.now }
         ensures { IfOk result (λ table. Represents table params.now (λ key. None)) }
     {
-        let count = key_count(params);
         Ok(UseTable {
-            params: *params,
-            session: 0,
-            slots: vec![in alloc; EMPTY; count]?,
+            places: Places::new(alloc, params)?,
+            undecided: new_orders(alloc, params.num_harts, id_count(params))?,
         })
     }
 
@@ -96,24 +74,15 @@ impl UseTable {
         requires { IsKey self.now.params key }
         ensures { result ≡ use_of self.now key }
     {
-        let slot = &self.slots[self.place(key)];
-        if slot.session == self.session {
-            slot.latest
-        } else {
-            None
-        }
+        self.places.latest(key)
     }
 
-    /// Forgets all uses: a new session begins. No slot is visited, but once in 2^64 sessions.
+    /// Forgets all uses: a new session begins. No use is visited, but once in 2^64 sessions.
     pub fn clear(&mut self)
         ensures { Represents self.new self.old.params (λ key. None) }
     {
-        if self.session == u64::MAX {
-            empty_all(&mut self.slots);
-            self.session = 0;
-            return;
-        }
-        self.session += 1;
+        self.places.clear();
+        clear_all(&mut self.undecided);
     }
 
     /// A use starts: an instruction is offered under a key in a cycle.
@@ -125,7 +94,7 @@ impl UseTable {
             → Represents self.new params
             (session.started (session.same_key key) cycle instr facts) }
     {
-        self.put(
+        self.put_newest(
             key,
             Use {
                 start: cycle,
@@ -230,7 +199,7 @@ impl UseTable {
                 Some(response) if response.accept => {
                     !latest.finished && latest.decision != Decision::Killed
                 }
-                Some(_) => self.params.profile == 2 && latest.decision == Decision::Undecided,
+                Some(_) => self.profile() == 2 && latest.decision == Decision::Undecided,
             },
         }
     }
@@ -277,102 +246,141 @@ impl UseTable {
         ensures { result
             ≡ (not (self.now.params.profile == 2) || spec.is_first_pending self.now hart start) }
     {
-        self.params.profile != 2 || self.is_first_pending(hart, start)
+        self.profile() != 2 || self.is_first_pending(hart, start)
     }
 
     fn is_first_pending(&self, hart: u8, start: u64) -> bool
         requires { hart < self.now.params.num_harts }
         ensures { result ≡ spec.is_first_pending self.now hart start }
     {
-        for id in 0..id_count(&self.params) {
-            let key = Key { hart, id };
-            if let Some(latest) = self.latest(key)
-                && is_pending(&latest)
-                && latest.start < start
-            {
-                return false;
-            }
-        }
-        true
+        none_answered_before(
+            &self.places,
+            &self.undecided[usize::from(hart)],
+            hart,
+            start,
+        )
     }
 
     fn decide_hart(&mut self, hart: u8, named: u64, kill: bool)
         requires { hart < self.old.params.num_harts }
         ensures { Decides self.old self.new hart named kill }
     {
-        for id in 0..id_count(&self.params) {
-            let key = Key { hart, id };
-            if let Some(latest) = self.latest(key) {
-                self.put(key, decided_use(latest, named, kill));
-            }
-        }
+        let order = &mut self.undecided[usize::from(hart)];
+        decide_covered(&mut self.places, order, hart, named, kill);
     }
 
+    fn profile(&self) -> u8
+        ensures { result ≡ self.now.params.profile }
+    {
+        self.places.params().profile
+    }
+
+    /// A key has another use, which is the newest.
+    fn put_newest(&mut self, key: Key, newest: Use)
+        requires key { IsKey self.old.params key }
+        requires later { StartsBefore self.old newest.start }
+        requires undecided { newest.decision ≡ Decision.Undecided }
+        ensures { Sets self.old self.new key (Some newest) }
+    {
+        let order = &mut self.undecided[usize::from(key.hart)];
+        start_over(order, &self.places, key, newest.start);
+        self.places.put(key, newest);
+    }
+
+    /// The use of a key changes, but neither its start nor its decision.
     fn put(&mut self, key: Key, latest: Use)
-        requires { IsKey self.old.params key }
+        requires key { IsKey self.old.params key }
+        requires same { session.undecided_start (spec.facts_in self.old key)
+            ≡ session.undecided_start (Some (spec.fact_of latest)) }
         ensures { Sets self.old self.new key (Some latest) }
     {
-        let place = self.place(key);
-        self.slots[place] = Slot {
-            session: self.session,
-            latest: Some(latest),
-        };
-    }
-
-    fn place(&self, key: Key) -> usize
-        requires { IsKey self.now.params key }
-        ensures place { result ≡ spec.place_of self.now.params key }
-        ensures inside { result < length self.now.uses }
-    {
-        (usize::from(key.hart) << self.params.id_width) + usize::from(key.id)
+        self.places.put(key, latest);
     }
 }
 
 /// How many ids a hart has.
-fn id_count(params: &Params) -> u16
+fn id_count(params: &Params) -> usize
     requires { IsInRange params.now }
     ensures { result ≡ 2 ^ params.now.id_width }
 {
     1 << params.id_width
 }
 
-/// How many keys the interface has.
-fn key_count(params: &Params) -> usize
-    requires { IsInRange params.now }
-    ensures { result ≡ params.now.num_harts * 2 ^ params.now.id_width }
+fn new_orders(alloc: Global, harts: u8, ids: usize) -> Result<Vec<Undecided>, NoMemory>
+    ensures count { IfOk result (λ orders. length orders.items ≡ harts) }
+    ensures empty { IfOk result (λ orders. (k : ℕ) → k < length orders.items
+        → order_at orders.items k ≡ record { room = ids; offers = [] }) }
 {
-    usize::from(params.num_harts) << params.id_width
+    let mut orders = Vec::with_capacity(alloc, usize::from(harts))?;
+    for _ in 0..harts {
+        orders.push(Undecided::new(alloc, ids)?)?;
+    }
+    Ok(orders)
 }
 
-fn empty_all(slots: &mut [Slot])
-    ensures count { length slots.new ≡ length slots.old }
-    ensures empty { (k : ℕ) (d : Slot) →
-        k < length slots.new → slice_index_or slots.new k d ≡ empty_slot }
+fn clear_all(orders: &mut [Undecided])
+    ensures count { length orders.new ≡ length orders.old }
+    ensures empty { (k : ℕ) → k < length orders.new
+        → order_at orders.new k ≡ record (order_at orders.old k) { offers = [] } }
 {
-    for place in 0..slots.len() {
-        slots[place] = EMPTY;
+    for hart in 0..orders.len() {
+        orders[hart].clear();
     }
 }
 
-/// Whether a use was answered and is undecided.
-fn is_pending(latest: &Use) -> bool
-    ensures { result ≡ session.is_pending (Some (spec.fact_of latest.now)) }
+/// Whether no undecided use of a hart that started before this cycle was answered.
+fn none_answered_before(places: &Places, order: &Undecided, hart: u8, start: u64) -> bool
+    requires hart { hart < places.now.params.num_harts }
+    requires order { IsOrder places.now hart order.now.offers }
+    ensures { result ≡ spec.is_first_pending places.now hart start }
 {
-    latest.response.is_some() && latest.decision == Decision::Undecided
+    for index in 0..order.len() {
+        let offer = order.at(index);
+        if start <= offer.start {
+            return true;
+        }
+        if is_answered(places.latest(Key { hart, id: offer.id })) {
+            return false;
+        }
+    }
+    true
 }
 
-/// The use after a commit that decides from a named start.
-fn decided_use(latest: Use, named: u64, kill: bool) -> Use
-    ensures { result ≡ spec.decided_use named kill latest }
+fn is_answered(latest: Option<Use>) -> bool
+    ensures { result ≡ option_map_or (λ entry. is_some entry.response) latest false }
 {
-    let is_covered = if kill {
-        named <= latest.start
-    } else {
-        latest.start <= named
-    };
-    if !is_covered || latest.decision != Decision::Undecided {
-        return latest;
+    match latest {
+        None => false,
+        Some(entry) => entry.response.is_some(),
     }
+}
+
+/// Decides the undecided uses of a hart that started from this cycle on, or up to it.
+fn decide_covered(places: &mut Places, order: &mut Undecided, hart: u8, named: u64, kill: bool)
+    requires hart { hart < places.old.params.num_harts }
+    requires order { IsOrder places.old hart order.old.offers }
+    ensures decided { Decides places.old places.new hart named kill }
+    ensures room { order.new.room ≡ order.old.room }
+    ensures order { IsOrder places.new hart order.new.offers }
+{
+    while let Some(offer) = order.pop_covered(named, kill) {
+        decide_one(places, Key { hart, id: offer.id }, kill);
+    }
+}
+
+fn decide_one(places: &mut Places, key: Key, kill: bool)
+    requires { IsKey places.old.params key }
+    ensures { Sets places.old places.new key
+        (option_map (decided_as kill) (use_of places.old key)) }
+{
+    if let Some(latest) = places.latest(key) {
+        places.put(key, with_decision(latest, kill));
+    }
+}
+
+fn with_decision(latest: Use, kill: bool) -> Use
+    ensures { result ≡ decided_as kill latest }
+{
     let decision = if kill {
         Decision::Killed
     } else {
@@ -382,5 +390,34 @@ fn decided_use(latest: Use, named: u64, kill: bool) -> Use
         ongoing: latest.ongoing && !kill,
         decision,
         ..latest
+    }
+}
+
+/// The key is to have a use that starts in this cycle, the newest one.
+fn start_over(order: &mut Undecided, places: &Places, key: Key, start: u64)
+    requires key { IsKey places.now.params key }
+    requires later { StartsBefore places.now start }
+    requires order { IsOrder places.now key.hart order.old.offers }
+    requires room { 2 ^ places.now.params.id_width ≤ order.old.room }
+    ensures room { order.new.room ≡ order.old.room }
+    ensures order { InOrder (2 ^ places.now.params.id_width)
+        (with_start key.id (Some start) (start_of places.now key.hart)) order.new.offers }
+{
+    withdraw(order, places, key);
+    order.push(Offer { start, id: key.id });
+}
+
+/// The latest use of a key is undecided no more.
+fn withdraw(order: &mut Undecided, places: &Places, key: Key)
+    requires key { IsKey places.now.params key }
+    requires order { IsOrder places.now key.hart order.old.offers }
+    ensures room { order.new.room ≡ order.old.room }
+    ensures order { InOrder (2 ^ places.now.params.id_width)
+        (with_start key.id None (start_of places.now key.hart)) order.new.offers }
+{
+    if let Some(latest) = places.latest(key)
+        && latest.decision == Decision::Undecided
+    {
+        order.remove(latest.start);
     }
 }

@@ -1,25 +1,19 @@
-use Rattle.std.proofs.Common.{◌≡◌, ◌<◌, ◌+◌, ◌∙◌, ℕ, List, length, sym, ap, subst, arith}
-use Rattle.std.specs.Prelude.{None, slice_index_or}
-use Rattle.std.specs.Vec.{with_items}
+use Rattle.std.proofs.Common.{◌≡◌, ◌<◌, ◌≤◌, ◌^◌, ◌∙◌, List, length, sym, ap, subst}
 use Rattle.std.proofs.lemmas.List.{with_items_is}
-use Rattle.xif_uses.specs.declared.table.Slot.{Slot}
-use Rattle.xif_uses.specs.Slots.{empty_slot}
-use Rattle.xif_uses.specs.Table.{Table, Represents}
-use Rattle.xif_uses.proofs.Places.{table_of, none_empty, none_older}
+use Rattle.xif_uses.specs.Order.{Order, AreOrders, order_at}
+use Rattle.xif_uses.proofs.Orders.{orders_none}
 use Rattle.xif_uses.proofs.table.UseTable.clear.Goals as goal
 
-pub returns-then-self : goal.returns-then-self
-returns-then-self c =
+pub invariant_of-self : goal.invariant_of-self
+invariant_of-self c =
     let x = c.self.inside in
-    let v : table_of x.params x.session x.slots.items ≡ c.args.self.now = c.self.view_is in
-    let n : length c.empty_all.new.slots ≡ x.slots.len = c.empty_all.ensures.count ∙ ap length c.deref_mut.ensures.value ∙ sym x.slots.ok.0 in
-    let e : (with_items x.slots c.empty_all.new.slots).items ≡ c.empty_all.new.slots = with_items_is x.slots c.empty_all.new.slots n in
-    subst (λ (t : Table). Represents (table_of x.params 0 (with_items x.slots c.empty_all.new.slots).items) t.params (λ key. None)) v
-    (subst (λ (slots : List Slot). Represents (table_of x.params 0 slots) x.params (λ key. None)) (sym e) (none_empty x.params 0 c.empty_all.new.slots c.empty_all.ensures.empty))
-
-pub returns : goal.returns
-returns c =
-    let x = c.self.inside in
-    let v : table_of x.params x.session x.slots.items ≡ c.args.self.now = c.self.view_is in
-    subst (λ (t : Table). Represents (table_of x.params (x.session + 1) x.slots.items) t.params (λ key. None)) v
-    (none_older x.params (x.session + 1) x.slots.items (λ i d l. let z = c.self.invariant.1.1 i d l in omega arith))
+    let a = c.self.invariant in
+    let same : c.deref_mut.result.now ≡ x.undecided.items = c.deref_mut.ensures.value in
+    let long : length c.clear_all.new.orders ≡ length x.undecided.items = c.clear_all.ensures.count ∙ ap length same in
+    subst (λ (orders : List Order). AreOrders c.clear.new.self orders) (sym (with_items_is x.undecided c.clear_all.new.orders (long ∙ sym x.undecided.ok.0)))
+    (orders_none c.clear.new.self x.places.params c.clear_all.new.orders c.clear.ensures (long ∙ a.count)
+    (λ hart l.
+    let e = c.clear_all.ensures.empty hart (subst (λ n. hart < n) (sym (long ∙ a.count)) l) in (
+      subst (λ n. 2 ^ x.places.params.id_width ≤ n) (sym (ap (λ (o : Order). o.room) e ∙ ap (λ orders. (order_at orders hart).room) same)) (a.room hart l),
+      ap (λ (o : Order). o.offers) e,
+    )))

@@ -1,5 +1,5 @@
 -- The places of keys, and a change of the use of one key.
-use Rattle.std.proofs.Common.{◌≡◌, ◌≢◌, ◌<◌, ◌≤◌, ◌+◌, ◌*◌, ◌^◌, ◌==◌, ℕ, zero, suc, Bool, true, false, if◌then◌else◌, Option, Some, None, List, [], ◌∷◌, length, replicate, map, slice_set, refl, sym, ap, ◌∙◌, subst, arith}
+use Rattle.std.proofs.Common.{◌≡◌, ◌<◌, ◌+◌, ◌*◌, ◌^◌, ◌==◌, ℕ, zero, suc, Bool, true, false, if◌then◌else◌, Option, None, List, [], ◌∷◌, length, replicate, map, slice_set, refl, sym, ap, ◌∙◌, subst, arith}
 use Rattle.std.specs.Prelude.{slice_index_or}
 use Rattle.std.specs.Option.{option_map}
 use Rattle.std.proofs.lemmas.Bool.{eq-eqb, ne_eqb}
@@ -8,15 +8,14 @@ use Rattle.std.proofs.lemmas.List.{get_or-set_same, get_or-set_other, map-set, l
 use Rattle.std.proofs.Math.Nat.{mul_comm}
 use Rattle.xif_base.specs.declared.params.Key.{Key}
 use Rattle.xif_base.specs.declared.params.Params.{Params}
-use Rattle.xif_session.specs.declared.fact.Fact.{Fact}
 use Rattle.xif_session.specs.Facts.{Facts, same_key}
 use Rattle.xif_session.proofs.Options.{key_is, key_same, no_true}
 use Rattle.xif_uses.specs.declared.entry.Use.{Use}
-use Rattle.xif_uses.specs.declared.table.Slot.{Slot}
+use Rattle.xif_uses.specs.declared.places.Slot.{Slot}
 use Rattle.xif_uses.specs.Slots.{live, empty_slot}
 use Rattle.xif_uses.specs.Table.{Table, IsKey, Represents, Sets, place_of, use_of, fact_of}
 
-three : (a b : ℕ) → (P : Type 0) → (a < b → P) → (a ≡ b → P) → (b < a → P) → P
+pub three : (a b : ℕ) → (P : Type 0) → (a < b → P) → (a ≡ b → P) → (b < a → P) → P
 three zero zero P f g h = g refl
 three zero (suc b) P f g h = f (omega arith)
 three (suc a) zero P f g h = h (omega arith)

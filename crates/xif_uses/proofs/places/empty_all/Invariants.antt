@@ -1,8 +1,8 @@
 use Rattle.std.proofs.Common.{◌≡◌, ◌<◌, ◌≤◌, ℕ, length}
 use Rattle.std.specs.Prelude.{slice_index_or}
-use Rattle.xif_uses.specs.declared.table.Slot.{Slot}
+use Rattle.xif_uses.specs.declared.places.Slot.{Slot}
 use Rattle.xif_uses.specs.Slots.{empty_slot}
-use Rattle.xif_uses.proofs.table.empty_all.Given as goal
+use Rattle.xif_uses.proofs.places.empty_all.Given as goal
 
 abbrev pub invariant-loop-place : goal.invariant-loop-place
 invariant-loop-place l = record {
