@@ -1,4 +1,5 @@
--- The first fault of a list of rules, rule by rule.
+-- The first fault of a list of rules, rule by rule, as a side of the judge finds it: a check of
+-- each rule, and a return at the first one that fails.
 use Rattle.std.proofs.Common.{◌≡◌, ◌∙◌, Bool, true, false, not, if◌then◌else◌, Option, Some, None, List, [], ◌∷◌, refl, ap}
 use Rattle.std.specs.Prelude.{Result, Ok, Err, find}
 use Rattle.std.specs.Option.{option_map}
