@@ -3,3 +3,4 @@ pub mod Ordered
 pub mod Orders
 pub mod Decisions
 pub mod Search
+pub mod Faults
