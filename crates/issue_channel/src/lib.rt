@@ -6,6 +6,10 @@
 //! table follow; the rules are those of `xif_session`.
 #![tactic(auto)]
 
+mod changes;
+mod fault;
+mod issue_rules;
+mod register_rules;
 mod side;
 
 pub use side::IssueSide;
