@@ -1,11 +1,11 @@
 -- What a cycle is to the transactions of a session.
-use Rattle.std.proofs.Common.{◌≡◌, ◌&&◌, not, Bool, true, false, if◌then◌else◌, Some, None, refl, sym, ap, ◌∙◌, subst}
+use Rattle.std.proofs.Common.{◌≡◌, ◌≢◌, ℕ, ◌&&◌, not, Bool, true, false, if◌then◌else◌, Some, None, refl, sym, ap, ◌∙◌, subst}
 use Rattle.std.specs.Option.{option_map_or}
 use Rattle.xif_base.specs.declared.params.Key.{Key}
 use Rattle.xif_base.specs.declared.params.Params.{Params}
 use Rattle.xif_signals.specs.declared.bus.Bus.{Bus}
 use Rattle.xif_signals.specs.Known.{when}
-use Rattle.xif_session.specs.Facts.{Past, issue_key, same_key, issue_waits, has_killed, is_in_flight, issue_continues, is_start}
+use Rattle.xif_session.specs.Facts.{Past, Facts, issue_key, same_key, issue_waits, has_killed, is_in_flight, issue_continues, is_start, started, named}
 use Rattle.xif_session.specs.Tests.{keeps_I2}
 use Rattle.xif_session.proofs.Options.{key_is}
 use Rattle.xif_uses.specs.declared.handshake.Phase.{Phase}
@@ -26,6 +26,28 @@ start_is p b h = go b.issue_valid (issue_continues p b) h
     go true true h = cc
     go true false h = refl
     go false c h = cc
+
+pub no_start : (p : Past) (b : Bus) → issue_phase p b ≢ Starts → is_start p b ≡ false
+no_start p b h = go b.issue_valid (issue_continues p b) h
+  where
+    go : (v c : Bool) → phase_by v c ≢ Starts → (v && not c) ≡ false
+    go true true h = refl
+    go true false h = absurd (h refl)
+    go false c h = refl
+
+-- the facts with the start of a cycle, where there is one and where there is none
+abbrev started_if : Past → Bus → Bool → Facts
+started_if p b t = started (λ key. t && same_key (issue_key b) key) p.cycle b.issue_instr p.facts
+
+pub with_start : (table : Table) (params : Params) (p : Past) (b : Bus) (key : Key) (cycle : ℕ) → Starts ≡ issue_phase p b → key ≡ issue_key b → p.cycle ≡ cycle
+    → Represents table params (started (same_key key) cycle b.issue_instr p.facts) → Represents table params (named p b)
+with_start table params p b key cycle s k n r =
+    subst (Represents table params)
+    (ap (λ key. started (same_key key) cycle b.issue_instr p.facts) k ∙ ap (λ n. started (same_key (issue_key b)) n b.issue_instr p.facts) (sym n) ∙ ap (started_if p b) (sym (start_is p b (sym s))))
+    r
+
+pub without_start : (table : Table) (params : Params) (p : Past) (b : Bus) → issue_phase p b ≢ Starts → Represents table params p.facts → Represents table params (named p b)
+without_start table params p b s r = subst (Represents table params) (ap (started_if p b) (sym (no_start p b s))) r
 
 -- the transaction that may continue does so
 pub phase_is : (p : Past) (b : Bus) → phase_of (open_issue p.facts p.last) b.issue_valid (issue_key b) ≡ issue_phase p b

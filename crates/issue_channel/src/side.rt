@@ -67,9 +67,9 @@ impl IssueSide {
         self.last = idle_bus();
     }
 
-    /// Takes a cycle of the session: judges its issue and register rules, and brings the table up to
-    /// the cycle's starts, responses and operands. `cycle` counts from the first one of the session.
-    /// After an error the side and the table are of no use until `reset` and `clear`.
+    /// Takes a cycle of the session: judges its issue and register rules, and brings the table up
+    /// to the cycle's starts, responses and operands. `cycle` counts from the first one of the
+    /// session. After an error the side and the table are of no use until `reset` and `clear`.
     pub fn step(&mut self, uses: &mut UseTable, cycle: u64, bus: &Bus) -> Result<(), Fault>
         requires widths { FitsWidths uses.old.params bus.now }
         requires harts { HoldsH1 uses.old.params bus.now }
@@ -123,8 +123,13 @@ fn continues_register(register: &mut Handshake, issue: Phase, bus: &Bus) -> bool
 {
     let key = bus.key(Channel::Register);
     let phase = register.step(bus.register_valid, bus.register_ready, key);
-    if issue == Phase::Starts && bus.key(Channel::Issue) == key {
-        return false;
-    }
-    phase == Phase::Continues
+    phase == Phase::Continues && !starts_under(key, issue, bus)
+}
+
+/// Whether a use of a key starts in a cycle.
+fn starts_under(key: Key, issue: Phase, bus: &Bus) -> bool
+    ensures { (p : Past) → issue ≡ issue_phase p bus.now
+        → result ≡ session.starts_key p bus.now key }
+{
+    issue == Phase::Starts && bus.key(Channel::Issue) == key
 }
