@@ -169,7 +169,7 @@ BEGIN {
   print "$upscope $end"
   print "$scope module design $end"
   for (i = 0; i < foreign; i++)
-    printf "$var wire %d f%d signal%d $end\n", i % 4 == 0 ? 1 : 32, i, i
+    printf "$var wire %d f%d signal%d $end\n", (i % 4 == 0 ? 1 : 32), i, i
   print "$upscope $end"
   print "$enddefinitions $end"
   for (cycle = 0; cycle < cycles; cycle++) {

@@ -21,7 +21,7 @@ BEGIN {
       if (cycle > 0 && (i == 2 || state % 4 > 0))
         continue
       if (width[i] == 1)
-        printf "%d%s\n", i == 2 ? 1 : value % 2, substr(codes, i, 1)
+        printf "%d%s\n", (i == 2 ? 1 : value % 2), substr(codes, i, 1)
       else
         printf "b%s %s\n", binary(value, width[i]), substr(codes, i, 1)
     }
