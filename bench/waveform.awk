@@ -1,19 +1,5 @@
 # Writes a waveform of so many cycles under the default names and parameters, as the simulator writes them: in each cycle the
-# signals that change, about a quarter of them, with values from a generator of random numbers (x * 69621 modulo 2^31 - 1).
-function random() {
-  state = state * 69621 % 2147483647
-  return state
-}
-
-function binary(value, width,    text) {
-  text = ""
-  for (; width > 0 && value > 0; width--) {
-    text = (value % 2) text
-    value = int(value / 2)
-  }
-  return text == "" ? "0" : text
-}
-
+# signals that change, about a quarter of them, with random values. It is read after random.awk.
 BEGIN {
   names = "clk rst_n issue_valid issue_ready issue_hartid issue_id issue_instr issue_accept issue_writeback issue_register_read " \
     "register_valid register_ready register_hartid register_id register_rs0 register_rs1 register_rs_valid commit_valid " \
@@ -35,7 +21,7 @@ BEGIN {
       if (cycle > 0 && (i == 2 || state % 4 > 0))
         continue
       if (width[i] == 1)
-        printf "%d%s\n", i == 2 ? 1 : value % 2, substr(codes, i, 1)
+        printf "%d%s\n", (i == 2 ? 1 : value % 2), substr(codes, i, 1)
       else
         printf "b%s %s\n", binary(value, width[i]), substr(codes, i, 1)
     }
