@@ -31,6 +31,7 @@ mod mem_shelf;
 mod name;
 mod outside;
 mod params;
+mod pieces;
 mod read;
 mod write;
 
@@ -42,5 +43,6 @@ pub use mem_shelf::MemShelf;
 pub use name::Name;
 pub use outside::{Failed, NoMemory, Out, Shelf, Which, WriteFail};
 pub use params::{Key, ParamFault, Params};
+pub use pieces::{Intake, PIECE, read_pieces};
 pub use read::{ReadFail, read_all};
 pub use write::put_all;
