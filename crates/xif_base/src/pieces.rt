@@ -1,5 +1,7 @@
 //! A file piece by piece, within a limit.
 ghost use Rattle.std.specs.Prelude.{◌≡◌, ◌≢◌, ◌⊎◌, ◌≤◌, ◌<◌, ◌+◌, ◌-◌, ◌^◌, ◌++◌, ℕ, List, [], length, vec_len, IfOk, OnOk};
+ghost use Rattle.std.proofs.Common.{rules};
+ghost use Rattle.std.proofs.lemmas.Grind.{common_steps};
 ghost use Rattle.xif_base.specs.Faults.{Rose, OnlyReads};
 ghost use Rattle.xif_base.specs.Files.{IsMissing, HasBytes, IsText};
 
@@ -10,35 +12,45 @@ use std::alloc::{AllocError, Global};
 /// The largest number of bytes that are read of a file at a time.
 pub const PIECE: usize = 65_536;
 
-/// A taker of the bytes of a file, in order and piece by piece.
+/// Takes the bytes of a file in order, piece by piece.
 pub trait Intake {
-    /// It has taken these bytes, and no others. It may be more than one list, or none after an
-    /// error.
-    ghost has_taken: { Self → List ℕ → Type 0 };
+    /// By taking these bytes the first value becomes the second.
+    ghost takes: { Self → List ℕ → Self → Type 0 };
 
-    /// How many bytes it may take in all.
-    ghost most: { ℕ };
+    /// Pieces that are together shorter than this can be taken.
+    ghost room: { Self → ℕ };
 
     /// Takes the next piece.
     fn take(&mut self, piece: &[u8]) -> Result<(), NoMemory>
-        requires { (bytes : List ℕ) × (has_taken self.old bytes
-            × (length bytes + length piece.now ≤ most)) }
-        ensures { (bytes : List ℕ) → has_taken self.old bytes →
-            OnOk result (has_taken self.new (bytes ++ piece.now)) };
+        requires { length piece.now < room self.old }
+        ensures takes { OnOk result (takes self.old piece.now self.new) }
+        ensures room { OnOk result (room self.old ≤ room self.new + length piece.now) };
+
+    /// By taking nothing a value becomes itself.
+    ghost takes_none: { (x : Self) → takes x [] x };
+
+    /// To take two pieces one after the other is to take them as one.
+    ghost takes_both: { (x y z : Self) (first second : List ℕ) →
+        takes x first y → takes y second z → takes x (first ++ second) z };
 }
 
 impl Intake for Vec<u8> {
-    ghost has_taken = { λ v bytes. v.items ≡ bytes };
+    ghost takes = { λ v bytes w. w.items ≡ v.items ++ bytes };
 
-    ghost most = { 2 ^ 64 - 1 };
+    ghost room = { λ _. 2 ^ 64 };
+
+    ghost takes_none = { λ v. Prim.search (rules, common_steps) };
+
+    ghost takes_both = { λ u v w first second p q. Prim.search (rules, common_steps) };
 
     fn take(&mut self, piece: &[u8]) -> Result<(), NoMemory> {
         Ok(self.extend_from_slice(piece)?)
     }
 }
 
-/// Reads a whole file of at most `limit` bytes, in pieces of at most `PIECE` bytes, of which it
-/// holds one at a time. At most one byte past the limit is fetched, and none is taken.
+/// Reads a whole file of at most `limit` bytes in pieces of at most `PIECE` bytes, of which it
+/// holds one at a time. At most one byte past the limit is fetched, and none is taken. After an
+/// error it isn't known what was taken.
 pub fn read_pieces<S: Shelf, T: Intake>(
     alloc: Global,
     shelf: &mut S,
@@ -46,11 +58,10 @@ pub fn read_pieces<S: Shelf, T: Intake>(
     limit: u64,
     intake: &mut T,
 ) -> Result<(), ReadFail>
-    requires empty { T.has_taken intake.old [] }
-    requires room { limit ≤ T.most }
+    requires { limit < T.room intake.old }
 
     // What is taken is the file, and it is within the limit.
-    ensures taken { OnOk result ((text : List ℕ) × (T.has_taken intake.new text
+    ensures taken { OnOk result ((text : List ℕ) × (T.takes intake.old text intake.new
         × IsText (S.files shelf.old) name.now limit text)) }
 
     // A read fails only if the shelf had a fault, or reports that there is no such file.

@@ -21,6 +21,7 @@ mod report;
 mod status;
 mod step;
 mod verdict;
+mod waveform;
 mod words;
 
 pub use laws::{raw_law, step_law};

@@ -24,11 +24,13 @@ pieces-preserved g c =
     let text = before.taken.0 in
     let size : length text ≡ c.pieces.at = before.taken.1.1.0 in
     let piece : List ℕ = take c.in-Ok.count c.fetch.new.buf in
+    let count : length piece ≡ c.in-Ok.count = grind (arith, common_steps) in
     record {
-      taken = (text ++ piece, (c.in_ok-take-in-Ok.ensures text before.taken.1.0, (grind (arith, common_steps), λ bytes has.
+      taken = (text ++ piece, (g.met.T.Intake.takes_both c.args.intake.now c.pieces.intake c.take.new.self text piece before.taken.1.0 c.in_ok-take-in-Ok.ensures.takes, (grind (arith, common_steps), λ bytes has.
           let here : HasBytes (g.S.Shelf.files c.pieces.shelf) c.args.name.now bytes = ap (λ files. told files c.args.name.now) before.files ∙ has in
           IsFront-append text bytes c.fetch.new.buf c.pieces.at c.in-Ok.count (sym size) (before.taken.1.1.1 bytes has) (c.in-Ok.ensures.bytes bytes here) c.in-Ok.ensures.bound.0)));
       within = omega arith;
+      space = omega (arith, count, c.in_ok-take-in-Ok.ensures.room, before.space);
       room = omega arith;
       uncounted = c.in-Ok.ensures.uncounted ∙ before.uncounted;
       writes = call.only_reads.same_writes ∙ before.writes;

@@ -1,4 +1,4 @@
-use Rattle.std.proofs.Common.{◌≡◌, ◌≤◌, ℕ, List, ◌-◌, length, vec_len}
+use Rattle.std.proofs.Common.{◌≡◌, ◌≤◌, ◌<◌, ℕ, List, ◌-◌, length, vec_len}
 use Rattle.xif_base.specs.Files.{HasBytes}
 use Rattle.xif_base.proofs.Fronts.{IsFront}
 use Rattle.xif_base.proofs.pieces.read_pieces.Given as goal
@@ -6,8 +6,9 @@ use Rattle.xif_base.proofs.pieces.read_pieces.Given as goal
 -- a prefix of the file was taken
 abbrev pub invariant-pieces : goal.invariant-pieces
 invariant-pieces g l = record {
-  taken : (text : List ℕ) × (g.T.Intake.has_taken l.intake text × ((length text ≡ l.at) × ((bytes : List ℕ) → HasBytes (g.S.Shelf.files l.fn.shelf) l.name bytes → IsFront text bytes)));
+  taken : (text : List ℕ) × (g.T.Intake.takes l.fn.intake text l.intake × ((length text ≡ l.at) × ((bytes : List ℕ) → HasBytes (g.S.Shelf.files l.fn.shelf) l.name bytes → IsFront text bytes)));
   within : l.at ≤ l.limit;
+  space : l.limit - l.at < g.T.Intake.room l.intake;
   room : vec_len l.room ≡ 65536;
   uncounted : g.S.Shelf.fetch_faults l.shelf ≡ g.S.Shelf.fetch_faults l.fn.shelf;
   writes : g.S.Shelf.write_faults l.shelf ≡ g.S.Shelf.write_faults l.fn.shelf;
