@@ -10,9 +10,8 @@ use crate::limits::WAVEFORM_LIMIT;
 use crate::read::{read_into, read_job};
 use crate::status::Status;
 use crate::verdict::verdict_text;
-use crate::waveform::JobJudge;
 use std::alloc::Global;
-use waveform_judge::Judged;
+use waveform_judge::{Judged, WaveformJudge};
 use xif_base::{Shelf, Which};
 use xif_job::Job;
 
@@ -44,7 +43,7 @@ fn judge_file<S: Shelf>(
         (verdict_in job.now waveform.now) (seen (λ answer. answer) result) }
     ensures refusal { IfErr result (λ status. IsTrue (can_refuse_waveform status)) }
 {
-    let mut judge = JobJudge::new(alloc, job)?;
+    let mut judge = WaveformJudge::new(alloc, &job.map, &job.params)?;
     read_into(alloc, Which::Waveform, waveform, WAVEFORM_LIMIT, shelf, &mut judge)?;
     let judged = judge.finish()?;
     let text = verdict_text(alloc, &judged)?;

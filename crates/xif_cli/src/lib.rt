@@ -21,7 +21,6 @@ mod report;
 mod status;
 mod step;
 mod verdict;
-mod waveform;
 mod words;
 
 pub use laws::{raw_law, step_law};

@@ -1,5 +1,5 @@
 //! The files that a command reads.
-ghost use Rattle.std.specs.Prelude.{◌≡◌, ◌≤◌, ◌⊎◌, ℕ, List, [], length, vec_len, IsTrue, IfErr, IfOk, OnOk};
+ghost use Rattle.std.specs.Prelude.{◌≡◌, ◌≤◌, ◌<◌, ◌⊎◌, ℕ, List, length, vec_len, IsTrue, IfErr, IfOk, OnOk};
 ghost use Rattle.xif_base.specs.Params.{IsInRange};
 ghost use Rattle.coproc_config.specs.Check.{IsLawful};
 ghost use Rattle.xif_job.specs.Ranges.{IsLawfulMemory};
@@ -42,10 +42,9 @@ pub(crate) fn read_into<S: Shelf, T: Intake>(
     shelf: &mut S,
     intake: &mut T,
 ) -> Result<(), Status>
-    requires empty { T.has_taken intake.old [] }
-    requires room { limit ≤ T.most }
+    requires { limit < T.room intake.old }
     ensures ends { (text : List ℕ) ×
-        (OnOk result (T.has_taken intake.new text × (length text ≤ limit)) ×
+        (OnOk result (T.takes intake.old text intake.new × (length text ≤ limit)) ×
         Ends S.files S.fetch_faults S.write_faults S.faultless shelf.old shelf.new
         (λ find. file_in which limit (find which name.now)) (seen (λ _. text) result)) }
     ensures refusal { IfErr result (λ status. IsTrue (can_refuse_file which status)) }
