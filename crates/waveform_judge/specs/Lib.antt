@@ -1,3 +1,4 @@
 pub mod Newest
 pub mod Judged
 pub mod Represented
+pub mod Taking

@@ -1,5 +1,7 @@
 //! From the bytes of a waveform to a verdict.
 ghost use Rattle.std.specs.Prelude.{◌≡◌, ◌<◌, ◌≤◌, ◌+◌, ◌^◌, ◌-◌, ◌++◌, ◌∷◌, [], ℕ, List, None, Some, Ok, Err, true, false, length, IfOk, IfErr, IsErr, OnOk, OnErr};
+ghost use Rattle.std.proofs.Common.{rules};
+ghost use Rattle.std.proofs.lemmas.Grind.{common_steps};
 ghost use Rattle.xif_base.specs.declared.params.Params.{Params};
 ghost use Rattle.xif_base.specs.Params.{IsInRange};
 ghost use Rattle.vcd_text.specs.declared.declaration.Variable.{Variable};
@@ -7,17 +9,15 @@ ghost use Rattle.vcd_text.specs.declared.item.Item.{Item};
 ghost use Rattle.xif_sampler.specs.declared.place.Place.{Place};
 ghost use Rattle.waveform_judge.specs.Judged.{judged_of, IsFail};
 ghost use Rattle.waveform_judge.specs.Represented.{Waits, HasTaken, HasRead, HasReadSome, Represents, is_waiting, variables_of, drained};
+ghost use Rattle.waveform_judge.specs.Taking.{Takes, takes_both};
 
 use crate::item_judge::ItemJudge;
 use crate::judged::{JudgeFail, Judged};
 use std::alloc::Global;
 use std::marker::Model;
 use vcd_text::{FeedFail, Item, Reader};
-use xif_base::{NoMemory, Params};
+use xif_base::{Intake, NoMemory, PIECE, Params};
 use xif_sampler::SignalMap;
-
-/// How many bytes of a text are read at a time.
-const PIECE: usize = 65_536;
 
 /// Takes the text of a waveform in pieces, and judges its samples while it is read.
 ///
@@ -102,6 +102,20 @@ impl<'a> WaveformJudge<'a> {
         let mut reader = self.reader;
         let mut items = self.items;
         end_text(&mut reader, &mut items)
+    }
+}
+
+impl<'a> Intake for WaveformJudge<'a> {
+    ghost takes = { Takes };
+
+    ghost room = { λ judge. 2 ^ 32 - judge.reader.size };
+
+    ghost takes_none = { λ judge. Prim.search (rules, common_steps) };
+
+    ghost takes_both = { takes_both };
+
+    fn take(&mut self, piece: &[u8]) -> Result<(), NoMemory> {
+        self.feed(piece)
     }
 }
 

@@ -24,9 +24,9 @@ IsFront-append items bytes buf at n behind front copied within =
     }
 
 -- a prefix behind which nothing can be copied is the whole
-pub IsFront-end : (items bytes buf : List ℕ) (n : ℕ) → IsFront items bytes → Copies bytes (length items) n buf → n ≡ 0 → 0 < length buf → items ≡ bytes
-IsFront-end items bytes buf n front copied none room =
-    let end : length bytes ≤ length items = copied.some none room in
+pub IsFront-end : (items bytes buf : List ℕ) (at n : ℕ) → at ≡ length items → IsFront items bytes → Copies bytes at n buf → n ≡ 0 → 0 < length buf → items ≡ bytes
+IsFront-end items bytes buf at n behind front copied none room =
+    let end : length bytes ≤ length items = omega (arith, copied.some none room, behind) in
     front.same ∙ grind (arith, common_steps)
 
 -- reported bytes that grew twice grew once, by both pieces

@@ -28,6 +28,11 @@ pub record Copies (bytes : List ℕ) (at n : ℕ) (buf : List ℕ) : Type 0 wher
   pub same : take n buf ≡ take n (drop at bytes)
   pub some : n ≡ 0 → 0 < length buf → length bytes ≤ at
 
+-- A text within the limit, and the bytes of the file of a name, if the shelf reports them.
+pub record IsText (files : Option Files) (name : List ℕ) (limit : ℕ) (text : List ℕ) : Type 0 where
+  pub is_file : (bytes : List ℕ) → HasBytes files name bytes → text ≡ bytes
+  pub within : length text ≤ limit
+
 -- the files with a piece appended to the file of a name, if there is one
 abbrev pub appended_to : Option (List ℕ) → Files → List ℕ → List ℕ → Files
 appended_to None files name piece = files

@@ -6,9 +6,10 @@
 //! `WriteFlags`, `Name`, `Key` and `ones_below`.
 //!
 //! They may use the traits `Shelf` and `Out`, whose contracts say what each of their calls returns
-//! and when it fails, `read_all` for a whole file within a limit, and `put_all` for all bytes of a
-//! text. `DiskShelf` and `StdOut` are the real outside. They report nothing of the bytes that they
-//! hold, and are trusted to the system.
+//! and when it fails; `read_pieces` for a file within a limit whose pieces an `Intake` takes, and
+//! `read_all` for one that is kept whole; and `put_all` for all bytes of a text. `DiskShelf` and
+//! `StdOut` are the real outside. They report nothing of the bytes that they hold, and are trusted
+//! to the system.
 //!
 //! `MemShelf` and `MemOut` are an outside in memory, for tests: they move a few bytes at a time and
 //! fail at the calls that their owner lists. Their contracts are exact, so that they show that the
@@ -31,6 +32,7 @@ mod mem_shelf;
 mod name;
 mod outside;
 mod params;
+mod pieces;
 mod read;
 mod write;
 
@@ -42,5 +44,6 @@ pub use mem_shelf::MemShelf;
 pub use name::Name;
 pub use outside::{Failed, NoMemory, Out, Shelf, Which, WriteFail};
 pub use params::{Key, ParamFault, Params};
+pub use pieces::{Intake, PIECE, read_pieces};
 pub use read::{ReadFail, read_all};
 pub use write::put_all;

@@ -3,7 +3,7 @@ ghost use Rattle.std.specs.Prelude.{◌≡◌, ◌≢◌, ◌⊎◌, ◌≤◌, 
 ghost use Rattle.xif_base.specs.Faults.{Rose, OnlyReads};
 ghost use Rattle.xif_base.specs.Files.{IsMissing, HasBytes};
 
-use crate::{Failed, Shelf};
+use crate::{NoMemory, Shelf, read_pieces};
 use std::alloc::{AllocError, Global};
 
 /// Why a file was not read.
@@ -17,6 +17,17 @@ pub enum ReadFail {
     NoMemory,
 }
 
+impl From<NoMemory> for ReadFail {
+    ghost use Rattle.std.specs.Prelude.{◌≡◌};
+    ghost use Rattle.xif_base.specs.declared.read.ReadFail.TheVariants.{NoMemory};
+
+    ghost from_gives = { λ _ fail. fail ≡ NoMemory };
+
+    fn from(_: NoMemory) -> Self {
+        ReadFail::NoMemory
+    }
+}
+
 impl From<AllocError> for ReadFail {
     ghost use Rattle.std.specs.Prelude.{◌≡◌};
     ghost use Rattle.xif_base.specs.declared.read.ReadFail.TheVariants.{NoMemory};
@@ -27,9 +38,6 @@ impl From<AllocError> for ReadFail {
         ReadFail::NoMemory
     }
 }
-
-/// The largest number of bytes that one fetch is asked for.
-const PIECE: usize = 65_536;
 
 /// Reads a whole file of at most `limit` bytes. At most one byte past the limit is fetched.
 pub fn read_all<S: Shelf>(
@@ -71,28 +79,6 @@ pub fn read_all<S: Shelf>(
         IsMissing (S.files shelf.old) name.now }
 {
     let mut bytes = Vec::new(alloc);
-    let mut room = new_room(alloc)?;
-    'pieces: loop {
-        let at = bytes.len() as u64;
-        // One byte past the limit shows that the file is longer.
-        let most = (limit - at).min(PIECE as u64 - 1) as usize + 1;
-        let piece = &mut room[..most];
-        match shelf.fetch(name, at, piece) {
-            Ok(0) => return Ok(bytes),
-            Ok(count) => {
-                bytes.extend_from_slice(&piece[..count])?;
-                if bytes.len() as u64 > limit {
-                    return Err(ReadFail::TooBig);
-                }
-            }
-            Err(Failed) => return Err(ReadFail::ReadFault),
-        }
-    }
-}
-
-/// Room for the bytes of one fetch.
-fn new_room(alloc: Global) -> Result<Vec<u8>, AllocError>
-    ensures { IfOk result (λ room. vec_len room ≡ PIECE) }
-{
-    vec![in alloc; 0; PIECE]
+    read_pieces(alloc, shelf, name, limit, &mut bytes)?;
+    Ok(bytes)
 }

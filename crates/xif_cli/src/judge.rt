@@ -7,11 +7,11 @@ ghost use Rattle.xif_cli.specs.Verdict.{judged_end};
 
 use crate::answer::{Answer, End};
 use crate::limits::WAVEFORM_LIMIT;
-use crate::read::{read_file, read_job};
+use crate::read::{read_into, read_job};
 use crate::status::Status;
 use crate::verdict::verdict_text;
 use std::alloc::Global;
-use waveform_judge::{Judged, judge_waveform};
+use waveform_judge::{Judged, WaveformJudge};
 use xif_base::{Shelf, Which};
 use xif_job::Job;
 
@@ -43,8 +43,9 @@ fn judge_file<S: Shelf>(
         (verdict_in job.now waveform.now) (seen (λ answer. answer) result) }
     ensures refusal { IfErr result (λ status. IsTrue (can_refuse_waveform status)) }
 {
-    let bytes = read_file(alloc, Which::Waveform, waveform, WAVEFORM_LIMIT, shelf)?;
-    let judged = judge_waveform(alloc, &bytes, &job.map, &job.params)?;
+    let mut judge = WaveformJudge::new(alloc, &job.map, &job.params)?;
+    read_into(alloc, Which::Waveform, waveform, WAVEFORM_LIMIT, shelf, &mut judge)?;
+    let judged = judge.finish()?;
     let text = verdict_text(alloc, &judged)?;
     let end = end_of(&judged);
     Ok(Answer { end, text })

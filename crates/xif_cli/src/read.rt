@@ -1,5 +1,5 @@
 //! The files that a command reads.
-ghost use Rattle.std.specs.Prelude.{◌≡◌, ◌≤◌, ◌⊎◌, vec_len, IsTrue, IfErr, IfOk};
+ghost use Rattle.std.specs.Prelude.{◌≡◌, ◌≤◌, ◌<◌, ◌⊎◌, ℕ, List, length, vec_len, IsTrue, IfErr, IfOk, OnOk};
 ghost use Rattle.xif_base.specs.Params.{IsInRange};
 ghost use Rattle.coproc_config.specs.Check.{IsLawful};
 ghost use Rattle.xif_job.specs.Ranges.{IsLawfulMemory};
@@ -10,7 +10,7 @@ ghost use Rattle.xif_cli.specs.Reading.{Ends, seen, can_refuse_file, can_refuse_
 use crate::limits::{JOB_LIMIT, RAW_IMAGE_LIMIT, TEXT_IMAGE_LIMIT};
 use crate::status::Status;
 use std::alloc::Global;
-use xif_base::{ReadFail, Shelf, Which, read_all};
+use xif_base::{Intake, ReadFail, Shelf, Which, read_all, read_pieces};
 use xif_image::{Image, ImageFault};
 use xif_job::{ImageKind, Job};
 
@@ -29,9 +29,42 @@ pub(crate) fn read_file<S: Shelf>(
 {
     match read_all(alloc, shelf, name, limit) {
         Ok(bytes) => Ok(bytes),
-        Err(ReadFail::ReadFault) => Err(Status::ReadFault(which)),
-        Err(ReadFail::TooBig) => Err(Status::TooBig(which)),
-        Err(ReadFail::NoMemory) => Err(Status::NoMemory),
+        Err(fail) => Err(refusal_of(which, fail)),
+    }
+}
+
+/// Reads a file piece by piece. `limit` is its greatest length in bytes.
+pub(crate) fn read_into<S: Shelf, T: Intake>(
+    alloc: Global,
+    which: Which,
+    name: &str,
+    limit: u64,
+    shelf: &mut S,
+    intake: &mut T,
+) -> Result<(), Status>
+    requires { limit < T.room intake.old }
+    ensures ends { (text : List ℕ) ×
+        (OnOk result (T.takes intake.old text intake.new × (length text ≤ limit)) ×
+        Ends S.files S.fetch_faults S.write_faults S.faultless shelf.old shelf.new
+        (λ find. file_in which limit (find which name.now)) (seen (λ _. text) result)) }
+    ensures refusal { IfErr result (λ status. IsTrue (can_refuse_file which status)) }
+{
+    match read_pieces(alloc, shelf, name, limit, intake) {
+        Ok(()) => Ok(()),
+        Err(fail) => Err(refusal_of(which, fail)),
+    }
+}
+
+// The refusal of a file that wasn't read.
+fn refusal_of(which: Which, fail: ReadFail) -> Status
+    ensures fault { fail ≡ ReadFail.ReadFault → result ≡ Status.ReadFault which }
+    ensures too_big { fail ≡ ReadFail.TooBig → result ≡ Status.TooBig which }
+    ensures memory { fail ≡ ReadFail.NoMemory → result ≡ Status.NoMemory }
+{
+    match fail {
+        ReadFail::ReadFault => Status::ReadFault(which),
+        ReadFail::TooBig => Status::TooBig(which),
+        ReadFail::NoMemory => Status::NoMemory,
     }
 }
 
