@@ -11,6 +11,8 @@ mod drive;
 #[cfg(test)]
 mod images;
 #[cfg(test)]
+mod issue;
+#[cfg(test)]
 mod judge;
 #[cfg(test)]
 mod machine;
