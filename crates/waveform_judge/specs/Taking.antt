@@ -18,7 +18,7 @@ pub takes_both : (old between new : WaveformJudging) (first second : List ℕ) �
     Takes old first between → Takes between second new → Takes old (first ++ second) new
 takes_both old between new first second one other =
     let both : length (first ++ second) ≡ length first + length second =
-        length-append first second in
+    length-append first second in
     record {
       represents = λ map params text p.
           let Reads : List ℕ → Type 0 = λ all. Represents new map params all in

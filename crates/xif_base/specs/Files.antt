@@ -28,10 +28,12 @@ pub record Copies (bytes : List ℕ) (at n : ℕ) (buf : List ℕ) : Type 0 wher
   pub same : take n buf ≡ take n (drop at bytes)
   pub some : n ≡ 0 → 0 < length buf → length bytes ≤ at
 
--- A text within the limit, and the bytes of the file of a name, if the shelf reports them.
-pub record IsText (files : Option Files) (name : List ℕ) (limit : ℕ) (text : List ℕ) : Type 0 where
-  pub is_file : (bytes : List ℕ) → HasBytes files name bytes → text ≡ bytes
-  pub within : length text ≤ limit
+-- These are the bytes of the file of a name, if the shelf reports them, and they are within the
+-- limit.
+pub record IsFileWithin (files : Option Files) (name : List ℕ) (limit : ℕ) (bytes : List ℕ)
+    : Type 0 where
+  pub is_file : (reported : List ℕ) → HasBytes files name reported → bytes ≡ reported
+  pub within : length bytes ≤ limit
 
 -- the files with a piece appended to the file of a name, if there is one
 abbrev pub appended_to : Option (List ℕ) → Files → List ℕ → List ℕ → Files

@@ -3,7 +3,7 @@ ghost use Rattle.std.specs.Prelude.{◌≡◌, ◌≢◌, ◌⊎◌, ◌≤◌, 
 ghost use Rattle.std.proofs.Common.{rules};
 ghost use Rattle.std.proofs.lemmas.Grind.{common_steps};
 ghost use Rattle.xif_base.specs.Faults.{Rose, OnlyReads};
-ghost use Rattle.xif_base.specs.Files.{IsMissing, HasBytes, IsText};
+ghost use Rattle.xif_base.specs.Files.{IsMissing, HasBytes, IsFileWithin};
 
 use crate::read::ReadFail;
 use crate::{Failed, NoMemory, Shelf};
@@ -61,8 +61,8 @@ pub fn read_pieces<S: Shelf, T: Intake>(
     requires { limit < T.room intake.old }
 
     // What is taken is the file, and it is within the limit.
-    ensures taken { OnOk result ((text : List ℕ) × (T.takes intake.old text intake.new
-        × IsText (S.files shelf.old) name.now limit text)) }
+    ensures taken { OnOk result ((bytes : List ℕ) × (T.takes intake.old bytes intake.new
+        × IsFileWithin (S.files shelf.old) name.now limit bytes)) }
 
     // A read fails only if the shelf had a fault, or reports that there is no such file.
     ensures missing { IsMissing (S.files shelf.old) name.now →

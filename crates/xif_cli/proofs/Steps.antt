@@ -5,7 +5,7 @@ use Rattle.xif_base.specs.declared.outside.Which.{Which}
 use Rattle.xif_cli.specs.declared.status.Status.{Status}
 use Rattle.xif_cli.specs.declared.status.Status.TheVariants.{ReadFault, NoMemory}
 use Rattle.xif_cli.specs.Outcome.{Lookup, ◌>>=◌}
-use Rattle.xif_cli.specs.Reading.{Ends, IsReadFault}
+use Rattle.xif_cli.specs.Reading.{Ends}
 
 -- a refusal stays one, whatever would have followed
 pub ends_refused : {S A B : Type 0} {files : S → Option Files} {fetch_faults write_faults : S → ℕ} {faultless : S → Type 0} {old new : S}

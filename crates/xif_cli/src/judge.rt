@@ -44,7 +44,14 @@ fn judge_file<S: Shelf>(
     ensures refusal { IfErr result (λ status. IsTrue (can_refuse_waveform status)) }
 {
     let mut judge = WaveformJudge::new(alloc, &job.map, &job.params)?;
-    read_into(alloc, Which::Waveform, waveform, WAVEFORM_LIMIT, shelf, &mut judge)?;
+    read_into(
+        alloc,
+        Which::Waveform,
+        waveform,
+        WAVEFORM_LIMIT,
+        shelf,
+        &mut judge,
+    )?;
     let judged = judge.finish()?;
     let text = verdict_text(alloc, &judged)?;
     let end = end_of(&judged);

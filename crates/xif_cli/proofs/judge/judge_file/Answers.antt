@@ -1,4 +1,4 @@
-use Rattle.std.proofs.Common.{◌≡◌, inl, [], Result, Ok, Err, rules, ap}
+use Rattle.std.proofs.Common.{◌≡◌, inl, [], Result, Ok, Err, rules}
 use Rattle.std.specs.String.{string_bytes}
 use Rattle.xif_cli.specs.declared.status.Status.{Status}
 use Rattle.xif_cli.specs.Outcome.{Answer, judge_status}
