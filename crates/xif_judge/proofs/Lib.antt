@@ -1,4 +1,3 @@
-pub mod Hart
 pub mod Now
 pub mod Order
 pub mod Firsts

@@ -1,4 +1,3 @@
 pub mod Rules
 pub mod Faults
 pub mod Histories
-pub mod Judging
