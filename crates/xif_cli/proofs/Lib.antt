@@ -3,3 +3,5 @@ pub mod Numbers
 pub mod Printed
 pub mod MemoryLines
 pub mod Reports
+pub mod Jobs
+pub mod Judged
