@@ -1,6 +1,5 @@
 -- The cycle of a sample, of which the judge of the session judged the bus.
-use Rattle.std.proofs.Common.{◌≡◌, Bool, true, false, cond, List, [], ◌∷◌, Option, Some, None, Ok, Err, refl, sym, ap, ◌∙◌, subst}
-use Rattle.std.specs.Prelude.{Result}
+use Rattle.std.proofs.Common.{◌≡◌, true, cond, List, [], ◌∷◌, Option, Some, None, Ok, Err, refl, sym, ap, ◌∙◌, subst}
 use Rattle.std.specs.Option.{option_map}
 use Rattle.xif_base.specs.declared.params.Params.{Params}
 use Rattle.xif_signals.specs.declared.sample.Quad.{Quad}
@@ -14,7 +13,6 @@ use Rattle.xif_signals.specs.Known.{holds_k1, holds_k2, known_by, known_of}
 use Rattle.xif_session.specs.declared.fault.Fault.{Fault as BusFault}
 use Rattle.xif_session.specs.Facts.{Past, past_of, past_after}
 use Rattle.xif_session.specs.Tests.{bus_fault, answer_of}
-use Rattle.xif_judge.specs.declared.verdict.Fault.{Fault}
 use Rattle.xif_judge.specs.Rules.{session_of, past_at}
 use Rattle.xif_judge.specs.Faults.{with_key, fault_by, fault_now}
 use Rattle.xif_judge.specs.Judging.{SessionJudging, HasFollowed, fault_answer}

@@ -19,7 +19,7 @@ use Rattle.xif_signals.proofs.Channels.{none_failing}
 use Rattle.xif_session.specs.declared.fault.Fault.{Fault as BusFault}
 use Rattle.xif_session.specs.Facts.{Past}
 use Rattle.xif_session.specs.Legal.{Holds, IsBefore, rule_number}
-use Rattle.xif_session.specs.Tests.{fault_of, bus_fault, IsFirstFault}
+use Rattle.xif_session.specs.Tests.{fault_of, bus_fault}
 use Rattle.xif_session.proofs.Places.{none_holds, first_fails, same_number}
 use Rattle.xif_judge.specs.declared.verdict.Fault.{Fault}
 use Rattle.xif_judge.specs.Rules.{HoldsK1, HoldsK2, HoldsAt, past_at}

@@ -1,11 +1,10 @@
 -- The sides of the judge, one after another, judge the rules of a bus.
-use Rattle.std.proofs.Common.{◌≡◌, ◌<◌, ◌≤◌, ◌+◌, ◌&&◌, not, ℕ, Bool, true, false, cond, List, [], ◌∷◌, ◌++◌, Option, Some, None, Ok, Err, refl, sym, ap, ◌∙◌, subst, inl, inr}
+use Rattle.std.proofs.Common.{◌≡◌, ◌<◌, ◌≤◌, ◌&&◌, not, ℕ, Bool, true, false, List, [], ◌∷◌, ◌++◌, Option, Some, None, Ok, Err, refl, sym, ap, ◌∙◌, subst, inl, inr}
 use Rattle.std.specs.Prelude.{◌⊎◌, if◌then◌else◌, find, Result, IsTrue, IfSome, IsSomeAnd}
 use Rattle.std.specs.Option.{option_map}
 use Rattle.xif_base.specs.declared.params.Key.{Key}
 use Rattle.xif_base.specs.declared.params.Params.{Params}
 use Rattle.xif_signals.specs.declared.bus.Bus.{Bus}
-use Rattle.xif_signals.specs.declared.rule.Channel.{Channel}
 use Rattle.xif_signals.specs.declared.rule.Channel.TheVariants.{Commit, Result as ResultChannel}
 use Rattle.xif_signals.specs.declared.rule.Rule.{Rule}
 use Rattle.xif_signals.specs.declared.rule.Rule.TheVariants.{H1}
@@ -18,8 +17,8 @@ use Rattle.xif_session.specs.Rules.{HoldsH1}
 use Rattle.xif_session.specs.Tests.{keeps, fault_of, first_fault_in, bus_rules, commit_rules, result_rules, bus_fault, answer_of}
 use Rattle.xif_session.proofs.Options.{key_is}
 use Rattle.xif_uses.specs.declared.entry.Use.{Use}
-use Rattle.xif_uses.specs.Table.{Table, IsKey, Represents, Sets, StartsBefore, NoneLater, use_of, with_end}
-use Rattle.issue_channel.specs.Following.{Following, Keeps, Follows, HasDecided, IsOpen, IsReady, open_issue, waiting_issue, side_rules}
+use Rattle.xif_uses.specs.Table.{Table, IsKey, Represents, Sets, NoneLater, use_of, with_end}
+use Rattle.issue_channel.specs.Following.{Following, Follows, HasDecided, IsOpen, IsReady, waiting_issue, side_rules}
 
 -- ---- the first fault of two lists of rules
 

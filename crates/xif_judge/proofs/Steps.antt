@@ -1,7 +1,6 @@
 -- A judge that had no fault so far represents the history with one cycle more.
 use Rattle.std.proofs.Common.{◌≡◌, ◌+◌, ℕ, List, ◌∷◌, length, Option, Some, None, Ok, Err, refl, sym, ap, ◌∙◌, subst, arith}
-use Rattle.std.specs.Prelude.{Result}
-use Rattle.std.specs.Option.{option_map, option_or}
+use Rattle.std.specs.Option.{option_map}
 use Rattle.xif_base.specs.declared.params.Params.{Params}
 use Rattle.xif_signals.specs.declared.sample.Quad.{Quad}
 use Rattle.xif_judge.specs.declared.verdict.Fault.{Fault}
@@ -9,7 +8,7 @@ use Rattle.xif_judge.specs.declared.verdict.Verdict.{Verdict}
 use Rattle.xif_judge.specs.Rules.{past_at}
 use Rattle.xif_judge.specs.Faults.{fault_now}
 use Rattle.xif_judge.specs.Histories.{verdict_on, first_fault}
-use Rattle.xif_judge.specs.Judging.{SessionJudging, HasFollowed, Judging, Represents, answer_of, fault_answer}
+use Rattle.xif_judge.specs.Judging.{SessionJudging, HasFollowed, Judging, Represents, fault_answer}
 
 no_fault : (found : Option Fault) → fault_answer found ≡ Ok tt → found ≡ None
 no_fault None e = refl

@@ -1,6 +1,6 @@
 -- Which rule holds in a cycle, by its sample and by the samples before it. A history is a list of
 -- samples, one a cycle, the newest first.
-use Rattle.std.specs.Prelude.{◌≡◌, Bool, if◌then◌else◌, List, [], ◌∷◌, IsTrue}
+use Rattle.std.specs.Prelude.{if◌then◌else◌, List, [], ◌∷◌, IsTrue}
 use Rattle.xif_base.specs.declared.params.Params.{Params}
 use Rattle.xif_signals.specs.declared.sample.Quad.{Quad}
 use Rattle.xif_signals.specs.declared.bus.Bus.{Bus}

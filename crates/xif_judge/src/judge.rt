@@ -106,11 +106,7 @@ impl Judge {
 }
 
 /// Judges the next cycle, and returns its fault.
-fn judge_cycle(
-    session: &mut SessionJudge,
-    params: &Params,
-    sample: &Sample,
-) -> Result<(), Fault>
+fn judge_cycle(session: &mut SessionJudge, params: &Params, sample: &Sample) -> Result<(), Fault>
     requires range { IsInRange params.now }
     requires ready { CanJudge session.old params.now }
     requires room { session.old.cycles < 2 ^ 64 - 1 }

@@ -1,4 +1,4 @@
-use Rattle.std.proofs.Common.{◌≡◌, Some, Err, sym, ap, subst, ◌∙◌}
+use Rattle.std.proofs.Common.{Err, sym, ap, subst, ◌∙◌}
 use Rattle.xif_judge.specs.Judging.{Judging, Represents, answer_of}
 use Rattle.xif_judge.proofs.Steps.{followed, first_ok, first_err, step_ok, step_err}
 use Rattle.xif_judge.proofs.judge.Judge.step.Goals as goal

@@ -1,4 +1,4 @@
-use Rattle.std.proofs.Common.{◌≡◌, ◌+◌, ℕ, Ok, Err, sym, ap, subst, ◌∙◌, refl}
+use Rattle.std.proofs.Common.{◌+◌, ℕ, Ok, Err, sym, ap, subst, ◌∙◌}
 use Rattle.std.proofs.lemmas.Result.{err_from_is_err_and}
 use Rattle.xif_judge.specs.Judging.{SessionJudging, HasFollowed, CanJudge}
 use Rattle.xif_judge.proofs.Sides.{fault_of_harts, fault_of_issue, fault_of_commit, answer_of_result, commit_inside, result_inside, follows_after, ready_after}
