@@ -5,3 +5,5 @@ pub mod MemoryLines
 pub mod Reports
 pub mod Steps
 pub mod Judging
+pub mod Jobs
+pub mod Judged

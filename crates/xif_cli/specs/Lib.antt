@@ -5,6 +5,7 @@ pub mod InOrder
 pub mod Verdict
 pub mod Limits
 pub mod Outcome
+pub mod Judged
 pub mod Ending
 pub mod Reading
 pub mod Printing

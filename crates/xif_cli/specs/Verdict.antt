@@ -55,13 +55,13 @@ verdict_line v =
     codes "illegal cycle=" ++ decimal v.cycle ++ codes " rule=" ++ rule_word v.rule ++ codes " channel=" ++ channel_word v.channel
     ++ codes " " ++ key_words v.key ++ codes "\n"
 
--- the line of so many cycles without a fault, of which not all rules were judged
-abbrev pub partial_line : ℕ → List ℕ
-partial_line cycles = codes "partial cycles=" ++ decimal cycles ++ codes "\n"
+-- the line of so many cycles without a fault
+abbrev pub legal_line : ℕ → List ℕ
+legal_line cycles = codes "legal cycles=" ++ decimal cycles ++ codes "\n"
 
 -- what is printed of so many cycles, of which the first fault is this one, if there is one
 abbrev pub text_by : ℕ → Option Verdict → List ℕ
-text_by cycles None = partial_line cycles
+text_by cycles None = legal_line cycles
 text_by cycles (Some verdict) = verdict_line verdict
 
 -- what is printed of a waveform

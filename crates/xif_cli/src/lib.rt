@@ -4,7 +4,7 @@
 //! with, and the limits of the files. The definitions are in `specs/`: `Words` (the forms of the
 //! command line), `Limits` (the longest files), `Outcome` (what a command means where nothing
 //! fails), `InOrder` and `Report` (what the in-order commands run and print), `Verdict` (what
-//! `judge` prints), `Status` (numbers and fault lines) and `Ending` (how a call can end, and why).
+//! `judge` prints), `Judged` (which samples it judges), `Status` (numbers and fault lines) and `Ending` (how a call can end, and why).
 //! `Reading` and `Printing` are internal.
 #![tactic(auto)]
 
@@ -23,7 +23,7 @@ mod step;
 mod verdict;
 mod words;
 
-pub use laws::{raw_law, step_law};
+pub use laws::{judge_law, raw_law, step_law};
 pub use limits::{JOB_LIMIT, RAW_IMAGE_LIMIT, RAW_LIMIT, TEXT_IMAGE_LIMIT, WAVEFORM_LIMIT};
 pub use program::xif;
 pub use status::Status;

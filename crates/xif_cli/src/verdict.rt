@@ -15,7 +15,7 @@ pub(crate) fn verdict_text(alloc: Global, judged: &Judged) -> Result<String, NoM
     ensures { IfOk result (λ text. string_bytes text ≡ judged_text judged.now) }
 {
     match judged.verdict {
-        None => Ok(format!(in alloc; "partial cycles={}\n", judged.cycles)?),
+        None => Ok(format!(in alloc; "legal cycles={}\n", judged.cycles)?),
         Some(verdict) => verdict_line(alloc, verdict),
     }
 }

@@ -1,48 +1,56 @@
 //! The judge, which takes the samples of a waveform in order.
-ghost use Rattle.std.specs.Prelude.{◌≡◌, ◌<◌, ◌+◌, ◌-◌, ◌^◌, List, [], ◌∷◌, IfOk, IfSome, Err};
-ghost use Rattle.std.specs.Option.{option_map, option_or};
+ghost use Rattle.std.specs.Prelude.{◌≡◌, ◌<◌, ◌≤◌, ◌+◌, ◌-◌, ◌^◌, List, [], ◌∷◌, IfOk, IfSome, OnOk, Err, Option, Result, None, Some, Ok};
 ghost use Rattle.xif_base.specs.declared.params.Params.{Params};
 ghost use Rattle.xif_base.specs.Params.{IsInRange};
 ghost use Rattle.xif_signals.specs.declared.sample.Quad.{Quad};
+ghost use Rattle.xif_judge.specs.Rules.{past_at};
 ghost use Rattle.xif_judge.specs.Faults as rules;
-ghost use Rattle.xif_judge.specs.Histories.{verdict_on, first_fault};
-ghost use Rattle.xif_judge.specs.Judging.{Represents, answer_of};
+ghost use Rattle.xif_judge.specs.Histories.{first_fault};
+ghost use Rattle.xif_judge.specs.Judging.{HasFollowed, CanJudge, Represents, answer_of, fault_answer};
 
-use crate::hart_rule::hart_fault;
+use crate::session_judge::SessionJudge;
 use crate::verdict::{Fault, Verdict};
 use std::alloc::Global;
 use std::marker::Model;
 use xif_base::{NoMemory, Params};
-use xif_signals::{Sample, Unknown};
+use xif_signals::Sample;
 
 /// Takes the samples of a waveform in order, and reports the first fault by the rules of a session.
 ///
 /// A cycle is a sample, and the first one has the number 0. Cycles in which rst_n isn't known to be
-/// 1 belong to no session: no rule is judged in them. In a cycle of a session the rules are judged
-/// in the order of `Rule`, and each rule channel by channel in the order of `Channel`.
+/// 1 belong to no session: no rule is judged in them, and what came before them is forgotten. In a
+/// cycle of a session the rules are judged in the order of `Rule`.
 #[derive(Debug, Drop)]
 pub struct Judge {
     params: Params,
     /// The number of samples that it took.
     cycles: u64,
-    /// The first fault so far.
+    /// The first fault so far. No rule is judged any more once there is one.
     verdict: Option<Verdict>,
+    session: SessionJudge,
 }
 
 impl Model for Judge {
+    ghost use Rattle.std.specs.Prelude.{◌≡◌, ◌≤◌, None};
     ghost use Rattle.xif_base.specs.Params.{IsInRange};
-    ghost use Rattle.xif_judge.specs.Judging.{Judging};
+    ghost use Rattle.xif_judge.specs.Judging.{Judging, CanJudge};
 
     ghost Value = { Judging };
 
-    ghost view = { λ j. record { params = j.params; cycles = j.cycles; verdict = j.verdict } };
+    ghost view = { λ j. record {
+      params = j.params;
+      cycles = j.cycles;
+      verdict = j.verdict;
+      session = j.session;
+    } };
 
-    ghost invariant = { λ j. IsInRange j.params };
+    ghost invariant = { λ j. IsInRange j.params
+        × ((j.verdict ≡ None → CanJudge j.session j.params) × (j.session.cycles ≤ j.cycles)) };
 }
 
 impl Judge {
-    /// A judge that has taken no sample. It allocates nothing so far.
-    pub fn new(_alloc: Global, params: &Params) -> Result<Judge, NoMemory>
+    /// A judge that has taken no sample. It takes all memory that it ever takes.
+    pub fn new(alloc: Global, params: &Params) -> Result<Judge, NoMemory>
         requires { IsInRange params.now }
         ensures { IfOk result (λ judge. Represents judge params.now []) }
     {
@@ -50,6 +58,7 @@ impl Judge {
             params: *params,
             cycles: 0,
             verdict: None,
+            session: SessionJudge::new(alloc, params)?,
         })
     }
 
@@ -66,9 +75,19 @@ impl Judge {
             → result ≡ answer_of (first_fault params (sample.now ∷ history)) }
         ensures kept { IfSome self.old.verdict (λ verdict. result ≡ Err verdict) }
     {
-        self.verdict = first_verdict(self.verdict, self.cycles, &self.params, sample);
+        let cycle = self.cycles;
         self.cycles += 1;
-        answer(self.verdict)
+        if let Some(verdict) = self.verdict {
+            return Err(verdict);
+        }
+        match judge_cycle(&mut self.session, &self.params, sample) {
+            Ok(()) => Ok(()),
+            Err(fault) => {
+                let verdict = fault.on(cycle);
+                self.verdict = Some(verdict);
+                Err(verdict)
+            }
+        }
     }
 
     /// The number of samples that it took.
@@ -86,46 +105,25 @@ impl Judge {
     }
 }
 
-/// The verdict so far, or that of this cycle.
-fn first_verdict(
-    so_far: Option<Verdict>,
-    cycle: u64,
-    params: &Params,
-    sample: &Sample,
-) -> Option<Verdict>
-    requires { IsInRange params.now }
-    ensures { result
-        ≡ option_or so_far (option_map (verdict_on cycle) (rules.fault_now params.now sample.now)) }
-{
-    match so_far {
-        Some(verdict) => Some(verdict),
-        None => Some(fault_now(params, sample)?.on(cycle)),
-    }
-}
-
-fn answer(verdict: Option<Verdict>) -> Result<(), Verdict>
-    ensures { result ≡ answer_of verdict }
-{
-    match verdict {
-        Some(verdict) => Err(verdict),
-        None => Ok(()),
-    }
-}
-
-/// The fault of a cycle.
-fn fault_now(params: &Params, sample: &Sample) -> Option<Fault>
-    requires { IsInRange params.now }
-    ensures { result ≡ rules.fault_now params.now sample.now }
+/// Judges the next cycle, and returns its fault.
+fn judge_cycle(session: &mut SessionJudge, params: &Params, sample: &Sample) -> Result<(), Fault>
+    requires range { IsInRange params.now }
+    requires ready { CanJudge session.old params.now }
+    requires room { session.old.cycles < 2 ^ 64 - 1 }
+    ensures fault { (older : List (List Quad))
+        → HasFollowed session.old params.now (past_at params.now older)
+        → result ≡ fault_answer (rules.fault_now params.now older sample.now) }
+    ensures followed { (older : List (List Quad))
+        → HasFollowed session.old params.now (past_at params.now older)
+        → OnOk result (HasFollowed session.new params.now (past_at params.now (sample.now ∷ older))) }
+    ensures ready { OnOk result (CanJudge session.new params.now) }
+    ensures cycles { session.new.cycles ≤ session.old.cycles + 1 }
 {
     if !sample.is_in_session(params) {
-        return None;
+        session.reset();
+        return Ok(());
     }
-    match sample.known(params) {
-        Ok(bus) => hart_fault(params, &bus),
-        Err(Unknown { rule, channel }) => Some(Fault {
-            rule,
-            channel,
-            key: None,
-        }),
-    }
+    let bus = sample.known(params)?;
+    session.step(params, &bus)?;
+    Ok(())
 }

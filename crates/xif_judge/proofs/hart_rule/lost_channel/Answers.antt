@@ -1,6 +1,6 @@
 use Rattle.std.proofs.Common.{rules}
-use Rattle.xif_judge.specs.Faults.{has_hart}
-use Rattle.xif_judge.proofs.hart_rule.first_without_hart.Goals as goal
+use Rattle.xif_session.specs.Tests.{has_hart}
+use Rattle.xif_judge.proofs.hart_rule.lost_channel.Goals as goal
 
 pub returns : goal.returns
 returns c =
