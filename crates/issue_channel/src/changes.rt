@@ -24,6 +24,8 @@ pub fn note_retraction(uses: &mut UseTable, waiting: Option<Key>, phase: Phase)
         → Represents uses.new params facts }
     ensures starts { SameStarts uses.old uses.new }
     ensures kept { phase ≡ Continues → uses.new ≡ uses.old }
+    ensures ended { phase ≢ Continues → IfSome waiting (λ key.
+        IfSome (use_of uses.new key) (λ latest. latest.ongoing ≡ false)) }
 {
     if let Some(key) = waiting
         && phase != Phase::Continues

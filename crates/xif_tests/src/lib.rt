@@ -9,6 +9,8 @@ mod coprocessors;
 #[cfg(test)]
 mod images;
 #[cfg(test)]
+mod issue;
+#[cfg(test)]
 mod judge;
 #[cfg(test)]
 mod machine;
