@@ -1,20 +1,19 @@
 -- The parameters of a job that is read are in their ranges.
-use Rattle.std.proofs.Common.{◌≡◌, ◌<◌, ◌≤◌, ◌^◌, ◌==◌, ◌&&◌, ◌||◌, not, ℕ, Bool, true, false, List, [], ◌∷◌, Option, Some, None, Ok, Err, refl, sym, ap, ◌∙◌, subst, arith, inl, inr}
+use Rattle.std.proofs.Common.{◌≡◌, ◌<◌, ◌≤◌, ◌^◌, ◌==◌, ◌&&◌, ◌||◌, not, ℕ, Bool, true, false, List, [], ◌∷◌, Ok, Err, refl, sym, ap, ◌∙◌, subst, arith, inl, inr}
 use Rattle.std.specs.Option.{ok_or}
-use Rattle.std.specs.Prelude.{◌⊎◌, Result, nat_lt, nat_le, if◌then◌else◌}
+use Rattle.std.specs.Prelude.{Result, nat_lt, nat_le, if◌then◌else◌}
 use Rattle.std.proofs.lemmas.Bool.{eqb-true}
 use Rattle.std.proofs.lemmas.Bool.Decides.{nat_tests}
 use Rattle.xif_base.specs.declared.params.Params.{Params}
 use Rattle.xif_base.specs.declared.params.ParamFault.{ParamFault}
-use Rattle.xif_base.specs.declared.params.ParamFault.TheVariants.{NumRs, IdWidth, RfrWidth, RfwWidth, NumHarts, HartidWidth, DualRead, Profile}
 use Rattle.xif_base.specs.Checks.{first_failing}
 use Rattle.xif_base.specs.Params.{IsInRange, IsPortWidth, ranges, within, is_port_width, has_hartids}
 use Rattle.coproc_config.specs.Check.{checks}
 use Rattle.xif_job.specs.declared.job.Job.{Job}
 use Rattle.xif_job.specs.declared.field.JobFault.{JobFault}
 use Rattle.xif_job.specs.Document.{document_of}
-use Rattle.xif_job.specs.FieldTable.{params_names, checked, ports_of, params_of, memory_of, image_of, core_of, units_of, map_of, differ, lawful, job_of, is_unbuilt, table_names, all_of, read_of}
-use Rattle.xif_job.specs.Readers.{◌at◌, ◌to◌, number_in, flag_in, are_known, table_in}
+use Rattle.xif_job.specs.FieldTable.{checked, params_of, memory_of, image_of, core_of, units_of, map_of, differ, lawful, job_of, is_unbuilt, table_names, read_of}
+use Rattle.xif_job.specs.Readers.{are_known}
 use Rattle.xif_job.specs.declared.field.JobFault.TheVariants.{NotToml, UnknownField, Unbuilt}
 use Rattle.xif_job.specs.Outcome.{◌>>=◌, unless}
 
@@ -123,7 +122,7 @@ job_in_range needs_image bytes =
     behind HasParams (unless (are_known table_names top) UnknownField) _ (λ _ _.
     behind HasParams (params_of top) _ (λ params read.
     let in_range : Gives IsInRange (params_of top) =
-        search (behind, checked_in_range) depth 12
+    search (behind, checked_in_range) depth 12
     in
     behind HasParams (memory_of top) _ (λ memory _.
     behind HasParams (image_of needs_image memory.base top) _ (λ image _.

@@ -2,8 +2,7 @@
 use Rattle.std.proofs.Common.{◌≡◌, ◌↔◌, ℕ, List, length, reverse, false, Option, Some, None, Ok, Err, refl, sym, ap, ◌∙◌}
 use Rattle.std.specs.Prelude.{Result}
 use Rattle.std.proofs.lemmas.List.{length-reverse}
-use Rattle.xif_base.specs.declared.params.Params.{Params}
-use Rattle.xif_base.specs.declared.outside.Which.TheVariants.{Waveform, Job as Job'}
+use Rattle.xif_base.specs.declared.outside.Which.TheVariants.{Job as Job'}
 use Rattle.xif_base.specs.Params.{IsInRange}
 use Rattle.xif_signals.specs.declared.sample.Quad.{Quad}
 use Rattle.xif_sampler.specs.Samples.{samples_by}
@@ -11,14 +10,13 @@ use Rattle.xif_job.specs.declared.job.Job.{Job}
 use Rattle.xif_judge.specs.declared.verdict.Verdict.{Verdict}
 use Rattle.xif_judge.specs.Histories.{first_fault, IsLegal, IsFirst}
 use Rattle.xif_judge.proofs.Firsts.{none_legal, first_is}
-use Rattle.waveform_judge.specs.declared.judged.Judged.{Judged}
-use Rattle.waveform_judge.specs.Judged.{judged_by, judged_from, judged_as, judged_of, with_map_fault}
+use Rattle.waveform_judge.specs.Judged.{judged_from, judged_as, judged_of, with_map_fault}
 use Rattle.xif_job.specs.declared.field.JobFault.{JobFault}
 use Rattle.xif_job.specs.FieldTable.{read_of}
 use Rattle.xif_cli.specs.declared.answer.End.TheVariants.{Done, Illegal}
 use Rattle.xif_cli.specs.declared.status.Status.{Status}
 use Rattle.xif_cli.specs.Judged.{HasHistory, Names, legal_answer, illegal_answer}
-use Rattle.xif_cli.specs.Limits.{longest_job, longest_waveform}
+use Rattle.xif_cli.specs.Limits.{longest_job}
 use Rattle.xif_cli.specs.Outcome.{Lookup, Answer, ◌>>=◌, file_in, or_status, job_status, judge_status, verdict_in, judge_outcome}
 use Rattle.xif_cli.specs.Verdict.{end_by, text_by, judged_end, judged_text}
 use Rattle.xif_cli.proofs.Jobs.{job_in_range}

@@ -1,5 +1,5 @@
 -- Which samples a call `judge JOB WAVEFORM` judges, and how it ends.
-use Rattle.std.specs.Prelude.{◌≡◌, ℕ, List, reverse, false, Result, Ok}
+use Rattle.std.specs.Prelude.{◌≡◌, ℕ, List, reverse, false, Ok}
 use Rattle.xif_base.specs.declared.outside.Which.TheVariants.{Waveform}
 use Rattle.xif_signals.specs.declared.sample.Quad.{Quad}
 use Rattle.vcd_text.specs.Reading.{Reading, reading_of}

@@ -27,8 +27,8 @@ unknown_at rule channel = record { rule = rule; channel = channel; key = None }
 abbrev pub with_key : BusFault → Fault
 with_key fault = record { rule = fault.rule; channel = fault.channel; key = Some fault.key }
 
--- What is reported of a rule that fails in a cycle. K1 and K2 report the first channel at which they
--- fail.
+-- What is reported of a rule that fails in a cycle. K1 and K2 report the first channel at which
+-- they fail.
 abbrev pub reported : Params → Rule → (older : List (List Quad)) → List Quad → Option Fault
 reported params K1 older sample =
     option_map (unknown_at K1) (first_failing_channel (holds_k1 sample params))

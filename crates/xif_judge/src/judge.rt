@@ -1,5 +1,5 @@
 //! The judge, which takes the samples of a waveform in order.
-ghost use Rattle.std.specs.Prelude.{◌≡◌, ◌<◌, ◌≤◌, ◌+◌, ◌-◌, ◌^◌, List, [], ◌∷◌, IfOk, IfSome, OnOk, Err, Option, Result, None, Some, Ok};
+ghost use Rattle.std.specs.Prelude.{◌≡◌, ◌<◌, ◌≤◌, ◌+◌, ◌-◌, ◌^◌, List, [], ◌∷◌, IfOk, IfSome, OnOk, Err};
 ghost use Rattle.xif_base.specs.declared.params.Params.{Params};
 ghost use Rattle.xif_base.specs.Params.{IsInRange};
 ghost use Rattle.xif_signals.specs.declared.sample.Quad.{Quad};
@@ -115,7 +115,8 @@ fn judge_cycle(session: &mut SessionJudge, params: &Params, sample: &Sample) -> 
         → result ≡ fault_answer (rules.fault_now params.now older sample.now) }
     ensures followed { (older : List (List Quad))
         → HasFollowed session.old params.now (past_at params.now older)
-        → OnOk result (HasFollowed session.new params.now (past_at params.now (sample.now ∷ older))) }
+        → OnOk result (HasFollowed session.new params.now
+        (past_at params.now (sample.now ∷ older))) }
     ensures ready { OnOk result (CanJudge session.new params.now) }
     ensures cycles { session.new.cycles ≤ session.old.cycles + 1 }
 {
