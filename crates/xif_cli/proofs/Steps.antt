@@ -1,11 +1,18 @@
 -- What a part of a command does after a file was read, and what it leaves out if none was.
-use Rattle.std.proofs.Common.{◌≡◌, ◌⊎◌, inl, inr, ℕ, Option, Result, Ok, Err, ap, ◌∙◌}
+use Rattle.std.proofs.Common.{◌≡◌, ◌⊎◌, inl, inr, ℕ, Option, Result, Ok, Err, refl, ap, ◌∙◌}
+use Rattle.std.specs.Prelude.{IsErrAnd, IsTrue}
+use Rattle.std.proofs.lemmas.Result.{err_from_is_err_and}
 use Rattle.xif_base.specs.Files.{Files}
 use Rattle.xif_base.specs.declared.outside.Which.{Which}
+use Rattle.xif_base.specs.declared.outside.Which.TheVariants.{Waveform}
 use Rattle.xif_cli.specs.declared.status.Status.{Status}
-use Rattle.xif_cli.specs.declared.status.Status.TheVariants.{ReadFault, NoMemory}
+use Rattle.xif_cli.specs.declared.status.Status.TheVariants.{Done, Illegal, Usage, ReadFault, WriteFault, Job, Image, Vcd, Map, TooBig, NoMemory, Unbuilt}
 use Rattle.xif_cli.specs.Outcome.{Lookup, ◌>>=◌}
-use Rattle.xif_cli.specs.Reading.{Ends}
+use Rattle.xif_cli.specs.Reading.{Ends, can_refuse_file, can_refuse_waveform}
+
+-- what is returned on a refusal is the refusal
+pub refused_with : {A : Type 0} (r : Result A Status) (status : Status) → IsErrAnd r (λ e. e ≡ status) → r ≡ Err status
+refused_with r status is = let found = err_from_is_err_and r is in found.1 ∙ ap Err found.2
 
 -- a refusal stays one, whatever would have followed
 pub ends_refused : {S A B : Type 0} {files : S → Option Files} {fetch_faults write_faults : S → ℕ} {faultless : S → Type 0} {old new : S}
@@ -47,3 +54,18 @@ ends_read {A = A} {B = B} first next x r ends follows no_fault =
       uncounted = elim ends.uncounted [ inl same ↦ inl same | inr fault ↦ (let no = fault.1 in absurd (cc)) ];
       only_reads = ends.only_reads;
     }
+
+-- a file that is refused is refused as the waveform
+pub refuses-waveform : (status : Status) → IsTrue (can_refuse_file Waveform status) → IsTrue (can_refuse_waveform status)
+refuses-waveform (Vcd fault) h = refl
+refuses-waveform (Map fault) h = refl
+refuses-waveform (ReadFault w) h = h
+refuses-waveform (TooBig w) h = h
+refuses-waveform NoMemory h = refl
+refuses-waveform Done h = h
+refuses-waveform Illegal h = h
+refuses-waveform Usage h = h
+refuses-waveform (WriteFault w) h = h
+refuses-waveform (Job fault) h = h
+refuses-waveform (Image fault) h = h
+refuses-waveform Unbuilt h = h

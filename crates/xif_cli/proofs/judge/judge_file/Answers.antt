@@ -3,13 +3,13 @@ use Rattle.std.specs.String.{string_bytes}
 use Rattle.xif_cli.specs.declared.status.Status.{Status}
 use Rattle.xif_cli.specs.Outcome.{Answer, judge_status}
 use Rattle.xif_cli.specs.Reading.{seen}
-use Rattle.xif_cli.proofs.Steps.{ends_refused, ends_read}
+use Rattle.xif_cli.proofs.Steps.{ends_refused, ends_read, refused_with, refuses-waveform}
 use Rattle.xif_cli.proofs.Judging.{waveform_in, answer_to, answer-fail, no_read_fault, answer-judged}
 use Rattle.xif_cli.proofs.judge.judge_file.Goals as goal
 
 pub returns-in_err-read_into-clause-ends : goal.returns-in_err-read_into-clause-ends
 returns-in_err-read_into-clause-ends g c =
-    let same : c.from_residual-in_err-read_into.result ≡ Err c.in_err-read_into.field-0.0 = search rules in
+    let same : c.from_residual-in_err-read_into.result ≡ Err c.in_err-read_into.field-0.0 = refused_with c.from_residual-in_err-read_into.result c.in_err-read_into.field-0.0 c.from_residual-in_err-read_into.ensures.1 in
     rw same (ends_refused (waveform_in c.args.waveform.now) (answer_to c.args.job.now) c.in_err-read_into.field-0.0 c.in_err-read_into.ensures.ends.1.1)
 
 pub returns-in_err-judged-clause-ends : goal.returns-in_err-judged-clause-ends
@@ -31,3 +31,8 @@ returns-clause-ends g c =
     let judged = c.in_ok-judged.ensures.judged job.map job.params ends.0 read in
     let answer = answer-judged job ends.0 c.in_ok-judged.judged c.end_of-end.result (string_bytes c.in_ok-text.text) judged c.end_of-end.ensures c.in_ok-text.ensures in
     ends_read (waveform_in c.args.waveform.now) (answer_to job) ends.0 (Ok (record { end = c.end_of-end.result; text = string_bytes c.in_ok-text.text })) ends.1.1 (inl answer) (λ w is. absurd (cc))
+
+pub returns-in_err-read_into-clause-refusal : goal.returns-in_err-read_into-clause-refusal
+returns-in_err-read_into-clause-refusal g c =
+    let same : c.from_residual-in_err-read_into.result ≡ Err c.in_err-read_into.field-0.0 = refused_with c.from_residual-in_err-read_into.result c.in_err-read_into.field-0.0 c.from_residual-in_err-read_into.ensures.1 in
+    rw same (refuses-waveform c.in_err-read_into.field-0.0 c.in_err-read_into.ensures.refusal)
