@@ -74,6 +74,9 @@ impl Delays {
     pub(crate) fn largest(&self, other: u16) -> u16
         ensures { result ≡ fold max other self.now }
     {
-        self.items.as_slice().iter().fold(other, |largest, delay| largest.max(*delay))
+        self.items
+            .as_slice()
+            .iter()
+            .fold(other, |largest, delay| largest.max(*delay))
     }
 }

@@ -163,8 +163,8 @@ settled_all params (b ∷ s) two r t =
     let us4 = with_commit b (effective_in b us1) us3 in
     let q4 : Settled us4 = settled_decide b (effective_in b us1) us3 q3 in
     let q5 : Settled (uses_after p.cycle p.last b (uses_of s)) =
-        settled_if (is_taken b) (result_key b) (with_end true) us4
-        (λ v x e d _. decided (now p b (result_key b)) x (sym (agree_now p b (uses_of s) (λ k. whole s k) (result_key b)) ∙ e) (t.0 (both-true b.result_valid b.result_ready v).0)) q4 in
+    settled_if (is_taken b) (result_key b) (with_end true) us4
+    (λ v x e d _. decided (now p b (result_key b)) x (sym (agree_now p b (uses_of s) (λ k. whole s k) (result_key b)) ∙ e) (t.0 (both-true b.result_valid b.result_ready v).0)) q4 in
     subst (λ n. Settled (uses_after n (last_bus s) b (uses_of s))) (cycle_is s) (subst (λ a. Settled (uses_after p.cycle a b (uses_of s))) (last_is s) q5)
 
 -- ---- so the latest use of each key is enough for the order of kills too

@@ -5,8 +5,11 @@ use xif_drive::{Backward, Bimodal, Delays, Listed, Never, Predictor, Script, Scr
 
 /// At address 0x100: JAL by -8, BEQ by -4 and by 8, and ADDI.
 const JAL_BACK: u32 = 0xff9f_f06f;
+
 const BEQ_BACK: u32 = 0xfe00_0ee3;
+
 const BEQ_ON: u32 = 0x0000_0463;
+
 const ADDI: u32 = 0x0000_0013;
 
 #[test]
@@ -59,7 +62,11 @@ Err(ScriptFault { cause: LongList, list: 4 })
 
 fn text_of_checks(alloc: Global) -> Result<String, Fail> {
     let mut text = String::new(alloc);
-    writeln!(text, "{:?}", script(alloc, &[3, 200], &ZEROS[..64])?.check())?;
+    writeln!(
+        text,
+        "{:?}",
+        script(alloc, &[3, 200], &ZEROS[..64])?.check()
+    )?;
     writeln!(text, "{:?}", script(alloc, &[], &[])?.check())?;
     writeln!(text, "{:?}", script(alloc, &[0, 201], &[])?.check())?;
     writeln!(text, "{:?}", script(alloc, &[0], &ZEROS)?.check())?;
@@ -77,8 +84,14 @@ fn scripts_are_checked_list_by_list(rt: HostRuntime) -> Result<(), Fail> {
 fn delays_are_taken_in_turn(rt: HostRuntime) -> Result<(), Fail> {
     let script = script(rt.alloc(), &[3, 200], &[7])?.copy(rt.alloc())?;
     assert!(rt; script.check().is_ok());
-    assert_eq!(rt; (script.issue(0), script.issue(3), script.issue(4)), (3, 200, 3));
-    assert_eq!(rt; (script.register(9), script.operand(9), script.result(9)), (0, 0, 0));
+    assert_eq!(rt;
+        (script.issue(0), script.issue(3), script.issue(4)),
+        (3, 200, 3)
+    );
+    assert_eq!(rt;
+        (script.register(9), script.operand(9), script.result(9)),
+        (0, 0, 0)
+    );
     assert_eq!(rt; (script.take(u64::MAX), script.largest()), (7, 200));
     Ok(())
 }
