@@ -1,8 +1,8 @@
 //! What single tokens are.
-ghost use Rattle.std.specs.Prelude.{◌≡◌, true, false, IfOk, IfSome, IfNone};
+ghost use Rattle.std.specs.Prelude.{◌≡◌, ◌≤◌, ◌+◌, ◌&&◌, nat_le, Some, true, false, IfOk, IfSome, IfNone};
 ghost use Rattle.std.specs.List.{list_all};
 ghost use Rattle.std.specs.Str.{is_utf8};
-ghost use Rattle.vcd_text.specs.Words.{is_white, number, digit, digits, keyword, is_end, is_command, is_code_character, is_code};
+ghost use Rattle.vcd_text.specs.Words.{is_white, zero_digit, number, digit, digits, keyword, is_end, is_command, is_code_character, is_code};
 
 use crate::keyword::Keyword;
 use crate::{Digit, Digits};
@@ -37,17 +37,64 @@ pub fn number(bytes: &[u8]) -> Option<u64>
 pub fn digit(byte: u8) -> Option<Digit>
     ensures { result ≡ digit byte }
 {
+    if is_binary(byte) {
+        return Some(binary_digit(byte));
+    }
     match byte {
-        b'0' => Some(Digit::Zero),
-        b'1' => Some(Digit::One),
         b'x' | b'X' => Some(Digit::X),
         b'z' | b'Z' => Some(Digit::Z),
         _ => None,
     }
 }
 
+/// Whether a byte is `0` or `1`, as nearly all digits are. The two follow no pattern that a
+/// processor could foresee, so this takes one branch for both.
+fn is_binary(byte: u8) -> bool
+    ensures { result ≡ (nat_le zero_digit byte && nat_le byte (zero_digit + 1)) }
+{
+    b'0' <= byte && byte <= b'1'
+}
+
+fn binary_digit(byte: u8) -> Digit
+    requires low { zero_digit ≤ byte }
+    requires high { byte ≤ zero_digit + 1 }
+    ensures { digit byte ≡ Some result }
+{
+    if byte == b'1' {
+        Digit::One
+    } else {
+        Digit::Zero
+    }
+}
+
 /// The digits that the bytes are, where each is one.
 pub fn digits(alloc: Global, bytes: &[u8]) -> Result<Option<Digits>, NoMemory>
+    ensures { IfOk result (λ found. found ≡ digits bytes.now) }
+{
+    match binary_digits(alloc, bytes) {
+        Some(found) => Ok(Some(found)),
+        None => any_digits(alloc, bytes),
+    }
+}
+
+/// The digits that the bytes are, where they are no more than 32 and each is `0` or `1`.
+fn binary_digits(alloc: Global, bytes: &[u8]) -> Option<Digits>
+    ensures { IfSome result (λ found. digits bytes.now ≡ Some found) }
+{
+    if bytes.len() > 32 {
+        return None;
+    }
+    let mut found = [Digit::Zero; 32];
+    for (i, byte) in bytes.iter().enumerate() {
+        if !is_binary(*byte) {
+            return None;
+        }
+        found[i] = binary_digit(*byte);
+    }
+    Some(Digits::of_front(alloc, found, bytes.len()))
+}
+
+fn any_digits(alloc: Global, bytes: &[u8]) -> Result<Option<Digits>, NoMemory>
     ensures { IfOk result (λ found. found ≡ digits bytes.now) }
 {
     let mut found = Digits::with_capacity(alloc, bytes.len())?;
