@@ -1,6 +1,7 @@
 //! What a token does.
 ghost use Rattle.std.specs.Prelude.{◌≡◌, ◌<◌, ◌^◌, Some, length};
-ghost use Rattle.vcd_text.specs.Grammar.{change, time_of, scalar, vector, command, body, step};
+ghost use Rattle.vcd_text.specs.Grammar.{change, time_of, scalar, vector, command, body, in_part, step};
+ghost use Rattle.vcd_text.specs.declared.state.Part.TheVariants.{Nothing};
 ghost use Rattle.vcd_text.specs.Steps.{StepsTo};
 ghost use Rattle.vcd_text.specs.Words.{number, digit, digits};
 
@@ -24,14 +25,12 @@ impl State {
         ensures { StepsTo self.old self.new result
             (step self.old (record { at = at; text = token.now })) }
     {
+        // Most tokens stand outside a part, and leave it as it is.
+        if let Part::Nothing = self.part {
+            return self.outside(alloc, at, token);
+        }
         match mem::replace(&mut self.part, Part::Nothing) {
-            Part::Nothing => {
-                if self.is_declared {
-                    self.body(alloc, at, token)
-                } else {
-                    self.declaration(alloc, at, token)
-                }
-            }
+            Part::Nothing => self.outside(alloc, at, token),
             Part::Block {
                 at: opened_at,
                 keyword,
@@ -61,6 +60,18 @@ impl State {
                 digits,
             } => self.change(opened_at, digits, at, token),
             Part::Passed { .. } => Ok(None),
+        }
+    }
+
+    /// Takes a token outside a part.
+    fn outside(&mut self, alloc: Global, at: u64, token: &[u8]) -> Result<Option<Item>, Stop>
+        ensures { StepsTo self.old self.new result (in_part Nothing self.old
+            (record { at = at; text = token.now })) }
+    {
+        if self.is_declared {
+            self.body(alloc, at, token)
+        } else {
+            self.declaration(alloc, at, token)
         }
     }
 
