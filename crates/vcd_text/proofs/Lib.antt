@@ -1,4 +1,5 @@
 pub mod CodeTable
+pub mod ShortCodes
 pub mod Following
 pub mod Front
 pub mod Sound
