@@ -46,9 +46,16 @@ impl Codes {
     pub fn find(&self, text: &[u8]) -> Option<(u32, u32)>
         ensures { result ≡ code_from 0 text.now self.now }
     {
-        if let Some(place) = place_of(text) {
-            return find_place(&self.places, place);
+        match place_of(text) {
+            Some(place) => find_place(&self.places, place),
+            None => self.find_long(text),
         }
+    }
+
+    #[inline(never)]
+    fn find_long(&self, text: &[u8]) -> Option<(u32, u32)>
+        ensures { result ≡ code_from 0 text.now self.now }
+    {
         match self.sizes.get_full(text) {
             Some((number, _, size)) => Some((number as u32, *size)),
             None => None,

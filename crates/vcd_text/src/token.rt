@@ -94,6 +94,7 @@ fn binary_digits(alloc: Global, bytes: &[u8]) -> Option<Digits>
     Some(Digits::of_front(alloc, found, bytes.len()))
 }
 
+#[inline(never)]
 fn any_digits(alloc: Global, bytes: &[u8]) -> Result<Option<Digits>, NoMemory>
     ensures { IfOk result (λ found. found ≡ digits bytes.now) }
 {
