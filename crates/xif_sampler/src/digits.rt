@@ -1,5 +1,5 @@
 //! The bits that a signal takes of the digits of a value (IEEE 1364-2005, 18.2.1).
-ghost use Rattle.std.specs.Prelude.{◌≡◌, ◌≤◌, ◌-◌, ◌+◌, ◌^◌, length};
+ghost use Rattle.std.specs.Prelude.{◌≡◌, ◌≤◌, ◌-◌, ◌+◌, ◌*◌, ◌^◌, length};
 ghost use Rattle.xif_sampler.specs.Digits.{filler, value_bit_of, unknown_bit_of, quad_from};
 
 use vcd_text::Digit;
@@ -12,12 +12,50 @@ pub fn quad_of(digits: &[Digit], low: u32, width: u8) -> Quad
     requires { width ≤ 64 }
     ensures { result ≡ quad_from digits.now low width }
 {
+    // Most signals are a bit of their own.
+    if low == 0 && width == 1 {
+        last_bit(digits)
+    } else {
+        bits(digits, low, width)
+    }
+}
+
+/// The last bit of a value.
+fn last_bit(digits: &[Digit]) -> Quad
+    ensures { result ≡ quad_from digits.now 0 1 }
+{
+    let digit = match digits {
+        [] => Digit::X,
+        [.., last] => *last,
+    };
+    Quad {
+        value: value_bit(digit),
+        unknown: unknown_bit(digit),
+    }
+}
+
+fn bits(digits: &[Digit], low: u32, width: u8) -> Quad
+    requires { width ≤ 64 }
+    ensures { result ≡ quad_from digits.now low width }
+{
     let end = digits.len().saturating_sub(low as usize);
     let start = end.saturating_sub(usize::from(width));
     let mut quad = written(digits, start, end);
     // The digit that a value is extended by is never 1.
-    quad.unknown += unknown_bit(filler_of(digits)) * ones((end - start) as u8, width);
+    quad.unknown += unknown_above(digits, (end - start) as u8, width);
     quad
+}
+
+/// The unknown bits that a value of `count` bits is extended by to `width` bits.
+fn unknown_above(digits: &[Digit], count: u8, width: u8) -> u64
+    requires in_order { count ≤ width }
+    requires few { width ≤ 64 }
+    ensures { result ≡ unknown_bit_of (filler digits.now) * (2 ^ width - 2 ^ count) }
+{
+    match filler_of(digits) {
+        Digit::X | Digit::Z => ones(count, width),
+        Digit::Zero | Digit::One => 0,
+    }
 }
 
 /// The bits of the digits from `start` to before `end`.
