@@ -1,5 +1,5 @@
 //! The digits of a value, and a value as a list of them.
-ghost use Rattle.std.specs.Prelude.{◌≡◌, ◌<◌, ◌≤◌, ◌++◌, [], ◌∷◌, Some, length, take, slice_get, IfOk, OnOk, OnErr};
+ghost use Rattle.std.specs.Prelude.{◌≡◌, ◌<◌, ◌++◌, [], ◌∷◌, Some, length, slice_get, IfOk, OnOk, OnErr};
 
 use smallvec::SmallVec;
 use std::alloc::Global;
@@ -53,14 +53,11 @@ impl Digits {
         })
     }
 
-    /// The first digits of an array.
-    pub(crate) fn of_front(alloc: Global, digits: [Digit; 32], count: usize) -> Digits
-        requires { count ≤ 32 }
-        ensures { result ≡ take count digits }
+    /// These digits.
+    pub(crate) fn of(items: SmallVec<Digit, 32>) -> Digits
+        ensures { result ≡ items.items }
     {
-        Digits {
-            items: SmallVec::from_buf_and_len(alloc, digits, count),
-        }
+        Digits { items }
     }
 
     /// Adds a digit at the right.

@@ -6,6 +6,7 @@ ghost use Rattle.vcd_text.specs.Words.{is_white, zero_digit, number, digit, digi
 
 use crate::keyword::Keyword;
 use crate::{Digit, Digits};
+use smallvec::SmallVec;
 use std::alloc::Global;
 use xif_base::NoMemory;
 
@@ -84,14 +85,14 @@ fn binary_digits(alloc: Global, bytes: &[u8]) -> Option<Digits>
     if bytes.len() > 32 {
         return None;
     }
-    let mut found = [Digit::Zero; 32];
-    for (i, byte) in bytes.iter().enumerate() {
+    let mut found = SmallVec::new(alloc);
+    for byte in bytes {
         if !is_binary(*byte) {
             return None;
         }
-        found[i] = binary_digit(*byte);
+        found.push_reserved(binary_digit(*byte));
     }
-    Some(Digits::of_front(alloc, found, bytes.len()))
+    Some(Digits::of(found))
 }
 
 #[inline(never)]
