@@ -43,6 +43,7 @@ impl Codes {
     }
 
     /// The number and the size in bits of a code, if it is declared.
+    #[inline(always)]
     pub fn find(&self, text: &[u8]) -> Option<(u32, u32)>
         ensures { result ≡ code_from 0 text.now self.now }
     {

@@ -21,9 +21,7 @@ const MAX_SIZE: u64 = 1_048_576;
 const MAX_SCOPES: usize = 64;
 
 impl State {
-    /// Takes a token among the declarations, outside a block. It isn't to weigh on the tokens of
-    /// the body, of which there are far more.
-    #[inline(never)]
+    /// Takes a token among the declarations, outside a block.
     pub fn declaration(
         &mut self,
         alloc: Global,
@@ -51,7 +49,6 @@ impl State {
     }
 
     /// Takes a block, once its `$end` was read. A fault is at its first token.
-    #[inline(never)]
     pub fn block(
         &mut self,
         alloc: Global,

@@ -148,6 +148,7 @@ impl State {
     }
 
     /// Returns a change of a code. The code is tested before the width.
+    #[inline(always)]
     fn change(
         &self,
         at: u64,
