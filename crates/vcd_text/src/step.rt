@@ -37,7 +37,8 @@ impl State {
                 mut words,
             } => {
                 if is_end(token) {
-                    return self.block(alloc, opened_at, keyword, words.as_slice());
+                    self.block(alloc, opened_at, keyword, words.as_slice())?;
+                    return Ok(None);
                 }
                 if words.len() < KEPT_WORDS {
                     words.push(Word::copy(alloc, token)?)?;
@@ -71,7 +72,8 @@ impl State {
         if self.is_declared {
             self.body(alloc, at, token)
         } else {
-            self.declaration(alloc, at, token)
+            self.declaration(alloc, at, token)?;
+            Ok(None)
         }
     }
 
