@@ -1,7 +1,9 @@
 //! What single tokens are.
-ghost use Rattle.std.specs.Prelude.{◌≡◌, ◌≤◌, ◌+◌, ◌&&◌, nat_le, Some, true, false, IfOk, IfSome, IfNone};
+ghost use Rattle.std.specs.Prelude.{◌≡◌, ◌≤◌, ◌+◌, ◌++◌, ◌&&◌, nat_le, List, Some, length, true, false, IfOk, IfSome, IfNone};
 ghost use Rattle.std.specs.List.{list_all};
 ghost use Rattle.std.specs.Str.{is_utf8};
+ghost use Rattle.smallvec.specs.SmallVec.{HasRoomFor, small_vec_len};
+ghost use Rattle.vcd_text.specs.declared.digit.Digit.{Digit};
 ghost use Rattle.vcd_text.specs.Words.{is_white, zero_digit, number, digit, digits, keyword, is_end, is_command, is_code_character, is_code};
 
 use crate::keyword::Keyword;
@@ -78,7 +80,11 @@ pub fn digits(alloc: Global, bytes: &[u8]) -> Result<Option<Digits>, NoMemory>
     }
 }
 
-/// The digits that the bytes are, where they are no more than 32 and each is `0` or `1`.
+/// How many bytes `binary_digits` takes in one turn.
+const TURN: usize = 8;
+
+/// The digits that the bytes are, where they are no more than 32 and each is `0` or `1`. It goes in
+/// turns of a fixed length, which take less work than a test of the end behind each byte.
 fn binary_digits(alloc: Global, bytes: &[u8]) -> Option<Digits>
     ensures { IfSome result (λ found. digits bytes.now ≡ Some found) }
 {
@@ -86,13 +92,37 @@ fn binary_digits(alloc: Global, bytes: &[u8]) -> Option<Digits>
         return None;
     }
     let mut found = SmallVec::new(alloc);
+    let mut rest = bytes;
+    while TURN <= rest.len() {
+        let (turn, more) = rest.split_at(TURN);
+        if !push_binary(&mut found, turn) {
+            return None;
+        }
+        rest = more;
+    }
+    if !push_binary(&mut found, rest) {
+        return None;
+    }
+    Some(Digits::of(found))
+}
+
+/// Adds the digits that the bytes are, if each is `0` or `1`.
+#[inline(always)]
+fn push_binary(found: &mut SmallVec<Digit, 32>, bytes: &[u8]) -> bool
+    requires room { HasRoomFor found.old (length bytes.now) }
+    ensures all { result ≡ true → (ds : List Digit) × (digits bytes.now ≡ Some ds)
+        × (found.new.items ≡ found.old.items ++ ds) }
+    ensures count { result ≡ true →
+        small_vec_len found.new ≡ small_vec_len found.old + length bytes.now }
+    ensures capacity { found.new.capacity ≡ found.old.capacity }
+{
     for byte in bytes {
         if !is_binary(*byte) {
-            return None;
+            return false;
         }
         found.push_reserved(binary_digit(*byte));
     }
-    Some(Digits::of(found))
+    true
 }
 
 #[inline(never)]
