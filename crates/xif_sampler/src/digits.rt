@@ -1,5 +1,6 @@
 //! The bits that a signal takes of the digits of a value (IEEE 1364-2005, 18.2.1).
-ghost use Rattle.std.specs.Prelude.{◌≡◌, ◌≤◌, ◌-◌, ◌+◌, ◌*◌, ◌^◌, length};
+ghost use Rattle.std.specs.Prelude.{◌≡◌, ◌≤◌, ◌-◌, ◌+◌, ◌*◌, ◌^◌, length, IfSome};
+ghost use Rattle.xif_signals.specs.Quad.{known_quad};
 ghost use Rattle.xif_sampler.specs.Digits.{filler, value_bit_of, unknown_bit_of, quad_from};
 
 use vcd_text::Digit;
@@ -60,6 +61,45 @@ fn unknown_above(digits: &[Digit], count: u8, width: u8) -> u64
 
 /// The bits of the digits from `start` to before `end`.
 fn written(digits: &[Digit], start: usize, end: usize) -> Quad
+    requires in_order { start ≤ end }
+    requires inside { end ≤ length digits.now }
+    requires few { end ≤ start + 64 }
+    ensures { result ≡ quad_from digits.now (length digits.now - end) (end - start) }
+{
+    match known_number(digits, start, end) {
+        Some(value) => Quad { value, unknown: 0 },
+        None => any_bits(digits, start, end),
+    }
+}
+
+/// The number that the digits from `start` to before `end` write, if all are known, as nearly
+/// always.
+fn known_number(digits: &[Digit], start: usize, end: usize) -> Option<u64>
+    requires in_order { start ≤ end }
+    requires inside { end ≤ length digits.now }
+    requires few { end ≤ start + 64 }
+    ensures { IfSome result (λ value. quad_from digits.now (length digits.now - end) (end - start)
+        ≡ known_quad value) }
+{
+    let mut value = 0;
+    for index in start..end {
+        value = value * 2 + known_bit(digits[index])?;
+    }
+    Some(value)
+}
+
+/// The bit of a digit, if it is known.
+fn known_bit(digit: Digit) -> Option<u64>
+    ensures value { IfSome result (λ bit. bit ≡ value_bit_of digit) }
+    ensures known { IfSome result (λ _. unknown_bit_of digit ≡ 0) }
+{
+    let bit = digit as u64;
+    if bit <= 1 { Some(bit) } else { None }
+}
+
+/// The bits of the digits from `start` to before `end`, some of them unknown.
+#[inline(never)]
+fn any_bits(digits: &[Digit], start: usize, end: usize) -> Quad
     requires in_order { start ≤ end }
     requires inside { end ≤ length digits.now }
     requires few { end ≤ start + 64 }
