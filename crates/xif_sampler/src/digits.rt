@@ -9,6 +9,7 @@ use xif_signals::Quad;
 
 /// `width` bits of a value, from its bit `low` on, which counts from the last digit as 0. A value
 /// that is shorter is extended on the left (IEEE 1364-2005, 18.2.2).
+#[inline(always)]
 pub fn quad_of(digits: &[Digit], low: u32, width: u8) -> Quad
     requires { width ≤ 64 }
     ensures { result ≡ quad_from digits.now low width }
@@ -35,6 +36,7 @@ fn last_bit(digits: &[Digit]) -> Quad
     }
 }
 
+#[inline(never)]
 fn bits(digits: &[Digit], low: u32, width: u8) -> Quad
     requires { width ≤ 64 }
     ensures { result ≡ quad_from digits.now low width }
@@ -98,7 +100,6 @@ fn known_bit(digit: Digit) -> Option<u64>
 }
 
 /// The bits of the digits from `start` to before `end`, some of them unknown.
-#[inline(never)]
 fn any_bits(digits: &[Digit], start: usize, end: usize) -> Quad
     requires in_order { start ≤ end }
     requires inside { end ≤ length digits.now }
