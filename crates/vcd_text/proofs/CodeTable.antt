@@ -15,6 +15,14 @@ code_of e = record { text = e.0.items; size = e.1 }
 abbrev pub is_text : List ℕ → Vec ℕ Global → Bool
 is_text text key = bytes_eq text key.items
 
+-- what is found where the first code is another
+pub other_code : (n : ℕ) (text : List ℕ) (c : Code) (cs : List Code) → bytes_eq text c.text ≡ false → code_from n text (c ∷ cs) ≡ code_from (n + 1) text cs
+other_code n text c cs g = ap (λ x. cond x (Some (n, c.size)) (code_from (n + 1) text cs)) g
+
+-- and where it is this one
+pub this_code : (n : ℕ) (text : List ℕ) (c : Code) (cs : List Code) → bytes_eq text c.text ≡ true → code_from n text (c ∷ cs) ≡ Some (n, c.size)
+this_code n text c cs g = ap (λ x. cond x (Some (n, c.size)) (code_from (n + 1) text cs)) g
+
 found_by : (text : List ℕ) (e : Entry) (es : List Entry) (n v : ℕ) (b : Bool) → is_text text e.0 ≡ b
     → (lookup (is_text text) es ≡ Some v → code_from (n + 1) text (map code_of es) ≡ Some (n + 1 + position_or_len (is_text text) (keys_of es), v))
     → lookup (is_text text) (e ∷ es) ≡ Some v

@@ -1,5 +1,7 @@
 pub mod CodeTable
+pub mod ShortCodes
 pub mod Following
+pub mod Ink
 pub mod Front
 pub mod Sound
 pub mod SoundReading

@@ -18,6 +18,7 @@ use Rattle.vcd_text.specs.Words.{is_end, is_code}
 use Rattle.vcd_text.specs.Codes.{Code, code_from}
 use Rattle.vcd_text.specs.Grammar.{goes, block, with_part, kept, var_sized, var_at}
 use Rattle.vcd_text.specs.Written.{numeral, with_space, with_line_end, var_line, header_text, wires_of, variables_from}
+use Rattle.vcd_text.proofs.CodeTable.{other_code, this_code}
 use Rattle.vcd_text.proofs.Says.{Says, said, says-then, says-to, says-word, says-nothing}
 use Rattle.vcd_text.proofs.Numerals.{numeral_word, number_numeral, some_digits}
 use Rattle.vcd_text.proofs.SaidLines.{in_body}
@@ -136,13 +137,6 @@ says-var p at cs vs k sig h l e =
 -- no code of a signal from a number on is among the codes
 abbrev Fresh : ℕ → List Code → Type 0
 Fresh n cs = (s : Signal) → n ≤ signal_number s → code_from 0 (code_of s) cs ≡ None
-
--- what is found where the first code is another
-other_code : (n : ℕ) (text : List ℕ) (c : Code) (cs : List Code) → bytes_eq text c.text ≡ false → code_from n text (c ∷ cs) ≡ code_from (n + 1) text cs
-other_code n text c cs g = ap (λ x. cond x (Some (n, c.size)) (code_from (n + 1) text cs)) g
-
-this_code : (n : ℕ) (text : List ℕ) (c : Code) (cs : List Code) → bytes_eq text c.text ≡ true → code_from n text (c ∷ cs) ≡ Some (n, c.size)
-this_code n text c cs g = ap (λ x. cond x (Some (n, c.size)) (code_from (n + 1) text cs)) g
 
 behind_by : (n : ℕ) (text : List ℕ) (c : Code) (cs ds : List Code) (x : Bool) → bytes_eq text c.text ≡ x → (code_from (n + 1) text cs ≡ None → code_from (n + 1) text (cs ++ ds) ≡ code_from (n + 1 + length cs) text ds) → code_from n text (c ∷ cs) ≡ None → code_from n text (c ∷ (cs ++ ds)) ≡ code_from (n + length (c ∷ cs)) text ds
 behind_by n text c cs ds true g h e = absurd (let f = sym (this_code n text c cs g) ∙ e in cc)

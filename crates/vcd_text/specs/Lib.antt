@@ -1,6 +1,7 @@
 pub mod Words
 pub mod Tokens
 pub mod Codes
+pub mod ShortCodes
 pub mod Grammar
 pub mod Reading
 pub mod Phrases

@@ -2,7 +2,7 @@
 ghost use Rattle.std.specs.Prelude.{◌≡◌, ◌<◌, ◌≤◌, ◌^◌, None, length};
 ghost use Rattle.vcd_text.specs.Codes.{code_from};
 ghost use Rattle.vcd_text.specs.Grammar.{var_at, var_sized, var, scope, upscope, block, opened, declaration};
-ghost use Rattle.vcd_text.specs.Steps.{StepsTo};
+ghost use Rattle.vcd_text.specs.Steps.{DeclaresTo};
 ghost use Rattle.vcd_text.specs.Words.{number};
 
 use crate::keyword::Keyword;
@@ -10,7 +10,7 @@ use crate::state::{Part, State};
 use crate::stop::Stop;
 use crate::token::{is_code, is_command, keyword, number, text};
 use crate::word::{Word, Words};
-use crate::{Item, Variable, VcdCause};
+use crate::{Variable, VcdCause};
 use std::alloc::Global;
 use xif_base::{Name, NoMemory};
 
@@ -21,14 +21,11 @@ const MAX_SIZE: u64 = 1_048_576;
 const MAX_SCOPES: usize = 64;
 
 impl State {
-    /// Takes a token among the declarations, outside a block.
-    pub fn declaration(
-        &mut self,
-        alloc: Global,
-        at: u64,
-        token: &[u8],
-    ) -> Result<Option<Item>, Stop>
-        ensures { StepsTo self.old self.new result
+    /// Takes a token among the declarations, outside a block. It isn't to weigh on the tokens of
+    /// the body, of which there are far more.
+    #[inline(never)]
+    pub fn declaration(&mut self, alloc: Global, at: u64, token: &[u8]) -> Result<(), Stop>
+        ensures { DeclaresTo self.old self.new result
             (declaration self.old (record { at = at; text = token.now })) }
     {
         if !is_command(token) {
@@ -38,26 +35,27 @@ impl State {
             Keyword::End => Stop::fault(VcdCause::BadToken, at),
             Keyword::Dump | Keyword::Other => {
                 self.part = Part::Skipped { at };
-                Ok(None)
+                Ok(())
             }
             keyword => {
                 let words = Words::new(alloc);
                 self.part = Part::Block { at, keyword, words };
-                Ok(None)
+                Ok(())
             }
         }
     }
 
     /// Takes a block, once its `$end` was read. A fault is at its first token.
+    #[inline(never)]
     pub fn block(
         &mut self,
         alloc: Global,
         at: u64,
         keyword: Keyword,
         words: &[Word],
-    ) -> Result<Option<Item>, Stop>
+    ) -> Result<(), Stop>
         requires room { length self.old.codes < 2 ^ 32 }
-        ensures { StepsTo self.old self.new result (block self.old at keyword words.now) }
+        ensures { DeclaresTo self.old self.new result (block self.old at keyword words.now) }
     {
         match keyword {
             Keyword::Scope => self.scope(alloc, at, words),
@@ -65,14 +63,14 @@ impl State {
             Keyword::Var => self.var(alloc, at, words),
             Keyword::EndDefinitions => {
                 self.is_declared = true;
-                Ok(None)
+                Ok(())
             }
-            _ => Ok(None),
+            _ => Ok(()),
         }
     }
 
-    fn scope(&mut self, alloc: Global, at: u64, words: &[Word]) -> Result<Option<Item>, Stop>
-        ensures { StepsTo self.old self.new result (scope self.old at words.now) }
+    fn scope(&mut self, alloc: Global, at: u64, words: &[Word]) -> Result<(), Stop>
+        ensures { DeclaresTo self.old self.new result (scope self.old at words.now) }
     {
         let [_, name, ..] = words else {
             return Stop::fault(VcdCause::BadToken, at);
@@ -84,22 +82,22 @@ impl State {
             return Stop::fault(VcdCause::BadToken, at);
         };
         self.scopes.push(Name::of(alloc, name)?)?;
-        Ok(None)
+        Ok(())
     }
 
-    fn upscope(&mut self, at: u64) -> Result<Option<Item>, Stop>
-        ensures { StepsTo self.old self.new result (upscope self.old at) }
+    fn upscope(&mut self, at: u64) -> Result<(), Stop>
+        ensures { DeclaresTo self.old self.new result (upscope self.old at) }
     {
         if self.scopes.len() == 0 {
             return Stop::fault(VcdCause::BadToken, at);
         }
         self.scopes.pop();
-        Ok(None)
+        Ok(())
     }
 
-    fn var(&mut self, alloc: Global, at: u64, words: &[Word]) -> Result<Option<Item>, Stop>
+    fn var(&mut self, alloc: Global, at: u64, words: &[Word]) -> Result<(), Stop>
         requires room { length self.old.codes < 2 ^ 32 }
-        ensures { StepsTo self.old self.new result (var self.old at words.now) }
+        ensures { DeclaresTo self.old self.new result (var self.old at words.now) }
     {
         let [_, size, code, name, ..] = words else {
             return Stop::fault(VcdCause::BadVar, at);
@@ -117,9 +115,9 @@ impl State {
         code: &[u8],
         name: &[u8],
         size: u64,
-    ) -> Result<Option<Item>, Stop>
+    ) -> Result<(), Stop>
         requires room { length self.old.codes < 2 ^ 32 }
-        ensures { StepsTo self.old self.new result
+        ensures { DeclaresTo self.old self.new result
             (var_sized self.old at code.now name.now (Some size)) }
     {
         if size > MAX_SIZE || !is_code(code) {
@@ -138,9 +136,9 @@ impl State {
         code: &[u8],
         size: u32,
         name: &str,
-    ) -> Result<Option<Item>, Stop>
+    ) -> Result<(), Stop>
         requires room { length self.old.codes < 2 ^ 32 }
-        ensures { StepsTo self.old self.new result
+        ensures { DeclaresTo self.old self.new result
             (var_at self.old at code.now size name.now (code_from 0 code.now self.old.codes)) }
     {
         let name = self.scopes.full_name(alloc, name)?;
@@ -153,7 +151,7 @@ impl State {
                     code: number,
                     size,
                 })?;
-                Ok(None)
+                Ok(())
             }
             Some((number, known)) => {
                 if known != size {
@@ -164,7 +162,7 @@ impl State {
                     code: number,
                     size,
                 })?;
-                Ok(None)
+                Ok(())
             }
         }
     }

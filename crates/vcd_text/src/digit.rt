@@ -53,6 +53,13 @@ impl Digits {
         })
     }
 
+    /// These digits.
+    pub(crate) fn of(items: SmallVec<Digit, 32>) -> Digits
+        ensures { result ≡ items.items }
+    {
+        Digits { items }
+    }
+
     /// Adds a digit at the right.
     pub fn push(&mut self, digit: Digit) -> Result<(), NoMemory>
         ensures ok { OnOk result (self.new ≡ self.old ++ digit ∷ []) }

@@ -16,7 +16,7 @@
 //! text of a list of buses, and what it says), `Writing` (which buses a writer has written).
 //! `Grammar` (what a token does) and `Reading` (what tokens do together) are the reader's
 //! automaton, which the contracts cite and which `grammar_law` ties to `Phrases`. `Scanner`,
-//! `Steps` and `Sound` are internal.
+//! `Steps`, `Sound` and `ShortCodes` are internal.
 #![tactic(auto)]
 
 mod codes;
@@ -32,6 +32,7 @@ mod read_back;
 mod reader;
 mod scanner;
 mod scopes;
+mod short_codes;
 mod state;
 mod step;
 mod stop;

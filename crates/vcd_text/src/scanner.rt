@@ -253,8 +253,28 @@ impl Scanner {
     }
 }
 
-/// How many bytes come before white space.
+/// How many bytes `word_len` looks at in one turn.
+const TURN: usize = 8;
+
+/// How many bytes come before white space. It goes in turns of a fixed length, which take less work
+/// than a test of the end behind each byte.
 fn word_len(bytes: &[u8]) -> usize
+    ensures within { result ≤ length bytes.now }
+    ensures ink { list_all is_ink (take result bytes.now) ≡ true }
+{
+    let mut len = 0;
+    while TURN <= bytes.len() - len {
+        let more = ink_len(&bytes[len..len + TURN]);
+        len += more;
+        if more < TURN {
+            return len;
+        }
+    }
+    len + ink_len(&bytes[len..])
+}
+
+#[inline(always)]
+fn ink_len(bytes: &[u8]) -> usize
     ensures within { result ≤ length bytes.now }
     ensures ink { list_all is_ink (take result bytes.now) ≡ true }
 {

@@ -1,8 +1,9 @@
 //! What a token does.
-ghost use Rattle.std.specs.Prelude.{◌≡◌, ◌<◌, ◌^◌, Some, length};
-ghost use Rattle.vcd_text.specs.Grammar.{change, time_of, scalar, vector, command, body, step};
-ghost use Rattle.vcd_text.specs.Steps.{StepsTo};
-ghost use Rattle.vcd_text.specs.Words.{number, digit, digits};
+ghost use Rattle.std.specs.Prelude.{◌≡◌, ◌<◌, ◌^◌, Some, length, if◌then◌else◌};
+ghost use Rattle.vcd_text.specs.Grammar.{change, time_of, scalar, vector, command, body, goes, with_part, kept, block, in_part, step};
+ghost use Rattle.vcd_text.specs.declared.state.Part.TheVariants.{Nothing, Block};
+ghost use Rattle.vcd_text.specs.Steps.{StepsTo, DeclaresTo};
+ghost use Rattle.vcd_text.specs.Words.{number, digit, digits, is_end};
 
 use crate::keyword::Keyword;
 use crate::state::{Part, State};
@@ -24,30 +25,18 @@ impl State {
         ensures { StepsTo self.old self.new result
             (step self.old (record { at = at; text = token.now })) }
     {
+        // Most tokens stand outside a part, and leave it as it is.
+        if let Part::Nothing = self.part {
+            return self.outside(alloc, at, token);
+        }
         match mem::replace(&mut self.part, Part::Nothing) {
-            Part::Nothing => {
-                if self.is_declared {
-                    self.body(alloc, at, token)
-                } else {
-                    self.declaration(alloc, at, token)
-                }
-            }
+            Part::Nothing => self.outside(alloc, at, token),
             Part::Block {
                 at: opened_at,
                 keyword,
-                mut words,
+                words,
             } => {
-                if is_end(token) {
-                    return self.block(alloc, opened_at, keyword, words.as_slice());
-                }
-                if words.len() < KEPT_WORDS {
-                    words.push(Word::copy(alloc, token)?)?;
-                }
-                self.part = Part::Block {
-                    at: opened_at,
-                    keyword,
-                    words,
-                };
+                self.in_block(alloc, opened_at, keyword, words, token)?;
                 Ok(None)
             }
             Part::Skipped { at: opened_at } => {
@@ -61,6 +50,44 @@ impl State {
                 digits,
             } => self.change(opened_at, digits, at, token),
             Part::Passed { .. } => Ok(None),
+        }
+    }
+
+    /// Takes a token of a block that was opened at an offset and has these words so far.
+    #[inline(never)]
+    fn in_block(
+        &mut self,
+        alloc: Global,
+        at: u64,
+        keyword: Keyword,
+        mut words: Words,
+        token: &[u8],
+    ) -> Result<(), Stop>
+        requires room { length self.old.codes < 2 ^ 32 }
+        ensures { DeclaresTo self.old self.new result
+            (if is_end token.now then block self.old at keyword words
+            else goes (with_part self.old (Block at keyword (kept words token.now)))) }
+    {
+        if is_end(token) {
+            return self.block(alloc, at, keyword, words.as_slice());
+        }
+        if words.len() < KEPT_WORDS {
+            words.push(Word::copy(alloc, token)?)?;
+        }
+        self.part = Part::Block { at, keyword, words };
+        Ok(())
+    }
+
+    /// Takes a token outside a part.
+    fn outside(&mut self, alloc: Global, at: u64, token: &[u8]) -> Result<Option<Item>, Stop>
+        ensures { StepsTo self.old self.new result (in_part Nothing self.old
+            (record { at = at; text = token.now })) }
+    {
+        if self.is_declared {
+            self.body(alloc, at, token)
+        } else {
+            self.declaration(alloc, at, token)?;
+            Ok(None)
         }
     }
 
@@ -137,6 +164,7 @@ impl State {
     }
 
     /// Returns a change of a code. The code is tested before the width.
+    #[inline(always)]
     fn change(
         &self,
         at: u64,

@@ -1,11 +1,14 @@
 //! What single tokens are.
-ghost use Rattle.std.specs.Prelude.{◌≡◌, true, false, IfOk, IfSome, IfNone};
+ghost use Rattle.std.specs.Prelude.{◌≡◌, ◌≤◌, ◌+◌, ◌++◌, ◌&&◌, nat_le, List, Some, length, true, false, IfOk, IfSome, IfNone};
 ghost use Rattle.std.specs.List.{list_all};
 ghost use Rattle.std.specs.Str.{is_utf8};
-ghost use Rattle.vcd_text.specs.Words.{is_white, number, digit, digits, keyword, is_end, is_command, is_code_character, is_code};
+ghost use Rattle.smallvec.specs.SmallVec.{HasRoomFor, small_vec_len};
+ghost use Rattle.vcd_text.specs.declared.digit.Digit.{Digit};
+ghost use Rattle.vcd_text.specs.Words.{is_white, zero_digit, number, digit, digits, keyword, is_end, is_command, is_code_character, is_code};
 
 use crate::keyword::Keyword;
 use crate::{Digit, Digits};
+use smallvec::SmallVec;
 use std::alloc::Global;
 use xif_base::NoMemory;
 
@@ -37,17 +40,93 @@ pub fn number(bytes: &[u8]) -> Option<u64>
 pub fn digit(byte: u8) -> Option<Digit>
     ensures { result ≡ digit byte }
 {
+    if is_binary(byte) {
+        return Some(binary_digit(byte));
+    }
     match byte {
-        b'0' => Some(Digit::Zero),
-        b'1' => Some(Digit::One),
         b'x' | b'X' => Some(Digit::X),
         b'z' | b'Z' => Some(Digit::Z),
         _ => None,
     }
 }
 
+/// Whether a byte is `0` or `1`, as nearly all digits are. The two follow no pattern that a
+/// processor could foresee, so this takes one branch for both.
+fn is_binary(byte: u8) -> bool
+    ensures { result ≡ (nat_le zero_digit byte && nat_le byte (zero_digit + 1)) }
+{
+    b'0' <= byte && byte <= b'1'
+}
+
+fn binary_digit(byte: u8) -> Digit
+    requires low { zero_digit ≤ byte }
+    requires high { byte ≤ zero_digit + 1 }
+    ensures { digit byte ≡ Some result }
+{
+    if byte == b'1' {
+        Digit::One
+    } else {
+        Digit::Zero
+    }
+}
+
 /// The digits that the bytes are, where each is one.
 pub fn digits(alloc: Global, bytes: &[u8]) -> Result<Option<Digits>, NoMemory>
+    ensures { IfOk result (λ found. found ≡ digits bytes.now) }
+{
+    match binary_digits(alloc, bytes) {
+        Some(found) => Ok(Some(found)),
+        None => any_digits(alloc, bytes),
+    }
+}
+
+/// How many bytes `binary_digits` takes in one turn.
+const TURN: usize = 8;
+
+/// The digits that the bytes are, where they are no more than 32 and each is `0` or `1`. It goes in
+/// turns of a fixed length, which take less work than a test of the end behind each byte.
+fn binary_digits(alloc: Global, bytes: &[u8]) -> Option<Digits>
+    ensures { IfSome result (λ found. digits bytes.now ≡ Some found) }
+{
+    if bytes.len() > 32 {
+        return None;
+    }
+    let mut found = SmallVec::new(alloc);
+    let mut rest = bytes;
+    while TURN <= rest.len() {
+        let (turn, more) = rest.split_at(TURN);
+        if !push_binary(&mut found, turn) {
+            return None;
+        }
+        rest = more;
+    }
+    if !push_binary(&mut found, rest) {
+        return None;
+    }
+    Some(Digits::of(found))
+}
+
+/// Adds the digits that the bytes are, if each is `0` or `1`.
+#[inline(always)]
+fn push_binary(found: &mut SmallVec<Digit, 32>, bytes: &[u8]) -> bool
+    requires room { HasRoomFor found.old (length bytes.now) }
+    ensures all { result ≡ true → (ds : List Digit) × (digits bytes.now ≡ Some ds)
+        × (found.new.items ≡ found.old.items ++ ds) }
+    ensures count { result ≡ true →
+        small_vec_len found.new ≡ small_vec_len found.old + length bytes.now }
+    ensures capacity { found.new.capacity ≡ found.old.capacity }
+{
+    for byte in bytes {
+        if !is_binary(*byte) {
+            return false;
+        }
+        found.push_reserved(binary_digit(*byte));
+    }
+    true
+}
+
+#[inline(never)]
+fn any_digits(alloc: Global, bytes: &[u8]) -> Result<Option<Digits>, NoMemory>
     ensures { IfOk result (λ found. found ≡ digits bytes.now) }
 {
     let mut found = Digits::with_capacity(alloc, bytes.len())?;

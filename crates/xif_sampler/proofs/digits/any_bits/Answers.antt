@@ -2,7 +2,7 @@ use Rattle.std.proofs.Common.{◌+◌, ◌-◌, ◌*◌, ◌^◌, ◌<◌, arith
 use Rattle.vcd_text.specs.declared.digit.Digit.TheVariants.{Zero}
 use Rattle.xif_sampler.specs.Digits.{value_bit_of, unknown_bit_of, bits_from}
 use Rattle.xif_sampler.proofs.Bits.{value_small, unknown_small, bits_double, bits_on}
-use Rattle.xif_sampler.proofs.digits.written.Goals as goal
+use Rattle.xif_sampler.proofs.digits.any_bits.Goals as goal
 
 pub overflow_mul-quad : goal.overflow_mul-quad
 overflow_mul-quad c =

@@ -1,0 +1,27 @@
+use Rattle.std.proofs.Common.{◌+◌, ◌-◌, ◌*◌, ◌^◌, ◌<◌, arith, length}
+use Rattle.vcd_text.specs.declared.digit.Digit.TheVariants.{Zero}
+use Rattle.xif_sampler.specs.Digits.{value_bit_of, unknown_bit_of, bits_from}
+use Rattle.xif_sampler.proofs.Bits.{value_small, bits_double, bits_on}
+use Rattle.xif_sampler.proofs.digits.known_number.Goals as goal
+
+pub overflow_mul-value : goal.overflow_mul-value
+overflow_mul-value c =
+    let i = c.loop-index in
+    let ds = c.args.digits.now in
+    let room : bits_from value_bit_of ds (length ds - i.index) (i.index - c.args.start) * 2 + 1 < 2 ^ 64 = bits_double value_bit_of ds (length ds - i.index) (i.index - c.args.start) value_small (omega arith) in
+    omega arith
+
+pub overflow_add-value : goal.overflow_add-value
+overflow_add-value c =
+    let i = c.loop-index in
+    let ds = c.args.digits.now in
+    let room : bits_from value_bit_of ds (length ds - i.index) (i.index - c.args.start) * 2 + 1 < 2 ^ 64 = bits_double value_bit_of ds (length ds - i.index) (i.index - c.args.start) value_small (omega arith) in
+    omega (arith, value_small)
+
+pub loop-index-preserved : goal.loop-index-preserved
+loop-index-preserved c =
+    let i = c.loop-index in
+    let ds = c.args.digits.now in
+    let value = bits_on value_bit_of ds c.args.start i.index Zero (omega arith) (omega arith) in
+    let unknown = bits_on unknown_bit_of ds c.args.start i.index Zero (omega arith) (omega arith) in
+    record { value = omega (arith, value); unknown = omega (arith, unknown) }
