@@ -117,6 +117,8 @@ impl<'a> ItemJudge<'a> {
     }
 
     /// Judges a sample, if there is one.
+    // Most items end no sample: inlined, none is moved for them.
+    #[inline(always)]
     fn judge_sample(&mut self, sample: Option<Sample>)
         requires { self.old.judge.cycles < 2 ^ 64 - 1 }
         ensures judged { (params : Params) (history : List (List Quad))

@@ -25,32 +25,33 @@ fn two_harts() -> Params
     }
 }
 
-/// All channels are valid, each for a key of its own, whose hart is 1.
+/// An instruction of hart 1 is offered, gets its registers, is released and gives its result, all in
+/// one cycle.
 const BUS: Bus = Bus {
     issue_valid: true,
     issue_ready: true,
     issue_hartid: 1,
     issue_id: 1,
-    issue_instr: 0x5b,
+    issue_instr: 0x2db,
     issue_accept: true,
     issue_writeback: 1,
     issue_register_read: 3,
     register_valid: true,
     register_ready: true,
     register_hartid: 1,
-    register_id: 2,
+    register_id: 1,
     register_rs0: 10,
     register_rs1: 11,
     register_rs2: 0,
     register_rs_valid: 3,
     commit_valid: true,
     commit_hartid: 1,
-    commit_id: 3,
+    commit_id: 1,
     commit_kill: false,
     result_valid: true,
     result_ready: true,
     result_hartid: 1,
-    result_id: 4,
+    result_id: 1,
     result_data: 12,
     result_rd: 5,
     result_we: 1,
@@ -94,7 +95,7 @@ const ANSWERS: &str = "\
 2 Ok(())
 3 Ok(())
 4 Ok(())
-5 Err(Verdict { cycle: 4, rule: H1, channel: Commit, key: Some(Key { hart: 3, id: 3 }) })
-6 Err(Verdict { cycle: 4, rule: H1, channel: Commit, key: Some(Key { hart: 3, id: 3 }) })
-Some(Verdict { cycle: 4, rule: H1, channel: Commit, key: Some(Key { hart: 3, id: 3 }) })
+5 Err(Verdict { cycle: 4, rule: H1, channel: Commit, key: Some(Key { hart: 3, id: 1 }) })
+6 Err(Verdict { cycle: 4, rule: H1, channel: Commit, key: Some(Key { hart: 3, id: 1 }) })
+Some(Verdict { cycle: 4, rule: H1, channel: Commit, key: Some(Key { hart: 3, id: 1 }) })
 ";
