@@ -36,26 +36,31 @@ end_word (Some TargetMisaligned) = codes "target-misaligned"
 -- how the run ended, the address of the next instruction to retire, and how many retired
 abbrev pub outcome_text : Option StopCause → ℕ → ℕ → List ℕ
 outcome_text stop pc retired =
-    codes "end=" ++ end_word stop ++ codes " pc=" ++ hex_word pc ++ codes " retired=" ++ decimal retired
+    codes "end=" ++ end_word stop ++ codes " pc=" ++ hex_word pc
+    ++ codes " retired=" ++ decimal retired
 
 -- the line of a register; one that is 0 has none
 abbrev pub register_line : ℕ → ℕ → List ℕ
 register_line number value =
-    if value == 0 then [] else codes "x" ++ decimal number ++ codes "=" ++ hex_word value ++ codes "\n"
+    if value == 0 then []
+    else codes "x" ++ decimal number ++ codes "=" ++ hex_word value ++ codes "\n"
 
 -- the lines of the registers, x0 apart; the list has the values of all, x0 first
 abbrev pub register_lines : List ℕ → List ℕ
-register_lines registers = flat_map (λ r. register_line r.0 r.1) (enumerate_from 1 (drop 1 registers))
+register_lines registers =
+    flat_map (λ r. register_line r.0 r.1) (enumerate_from 1 (drop 1 registers))
 
 -- the line of an accumulator of a unit; one that is 0 has none
 abbrev pub accumulator_line : ℕ → ℕ → ℕ → List ℕ
 accumulator_line unit number value =
     if value == 0 then [] else
-    codes "u" ++ decimal unit ++ codes ".a" ++ decimal number ++ codes "=" ++ hex_double value ++ codes "\n"
+    codes "u" ++ decimal unit ++ codes ".a" ++ decimal number
+    ++ codes "=" ++ hex_double value ++ codes "\n"
 
 -- the lines of a unit's accumulators
 abbrev pub unit_lines : ℕ → List ℕ → List ℕ
-unit_lines unit accumulators = flat_map (λ a. accumulator_line unit a.0 a.1) (enumerate_from 0 accumulators)
+unit_lines unit accumulators =
+    flat_map (λ a. accumulator_line unit a.0 a.1) (enumerate_from 0 accumulators)
 
 -- the lines of the accumulators of all units, in order
 abbrev pub accumulator_lines : List (List ℕ) → List ℕ
@@ -68,12 +73,14 @@ memory_word bytes i = from_le_bytes w32 (take 4 (drop (4 * i) bytes))
 -- the line of a word of memory; one that is as it was before has none
 abbrev pub memory_line : ℕ → ℕ → ℕ → List ℕ
 memory_line address before after =
-    if before == after then [] else codes "m " ++ hex_word address ++ codes "=" ++ hex_word after ++ codes "\n"
+    if before == after then []
+    else codes "m " ++ hex_word address ++ codes "=" ++ hex_word after ++ codes "\n"
 
 -- the lines of the words of a memory, from its base on
 abbrev pub memory_lines : List ℕ → Region → List ℕ
 memory_lines before after =
-    flat_map (λ i. memory_line (after.base + 4 * i) (memory_word before i) (memory_word after.bytes i))
+    flat_map
+    (λ i. memory_line (after.base + 4 * i) (memory_word before i) (memory_word after.bytes i))
     (range_with_len 0 ((length after.bytes + 3) / 4))
 
 -- the report of a run that ended by this stop, or else by its budget, after so many retirements, in

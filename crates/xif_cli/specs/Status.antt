@@ -59,7 +59,8 @@ job_words (job.WrongKind field) = codes "kind " ++ dotted field
 job_words (job.OutOfRange field) = codes "range " ++ dotted field
 job_words job.UnknownField = codes "unknown"
 job_words (job.Set fault) =
-    codes "set " ++ cause_word fault.cause ++ codes " unit=" ++ decimal fault.unit ++ codes " entry=" ++ decimal fault.entry
+    codes "set " ++ cause_word fault.cause ++ codes " unit=" ++ decimal fault.unit
+    ++ codes " entry=" ++ decimal fault.entry
 job_words job.NoMemory = codes "no memory"
 job_words job.Unbuilt = codes "unbuilt"
 

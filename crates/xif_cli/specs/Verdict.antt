@@ -52,7 +52,8 @@ key_words (Some key) = codes "hart=" ++ decimal key.hart ++ codes " id=" ++ deci
 -- the line of a first fault
 abbrev pub verdict_line : Verdict → List ℕ
 verdict_line v =
-    codes "illegal cycle=" ++ decimal v.cycle ++ codes " rule=" ++ rule_word v.rule ++ codes " channel=" ++ channel_word v.channel
+    codes "illegal cycle=" ++ decimal v.cycle ++ codes " rule=" ++ rule_word v.rule
+    ++ codes " channel=" ++ channel_word v.channel
     ++ codes " " ++ key_words v.key ++ codes "\n"
 
 -- the line of so many cycles without a fault

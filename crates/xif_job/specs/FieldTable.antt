@@ -135,7 +135,8 @@ unfoldable pub predictor_of : Members → Result Kind JobFault
 predictor_of t = do
   name ← choice_in fields.CorePredictor predictors (Default names.Never) (t at "predictor")
   bits ← number_in fields.CoreBits (1 to 12) (Default 8) (t at "bits")
-  targets ← numbers_in fields.CoreTargets (1 to 64) (0 to 2 ^ 32 - 1) (Default (0 ∷ [])) (t at "targets")
+  targets ← numbers_in fields.CoreTargets (1 to 64) (0 to 2 ^ 32 - 1) (Default (0 ∷ []))
+      (t at "targets")
   Ok (kind_of name bits targets)
 
 abbrev pub core_names : List (List ℕ)

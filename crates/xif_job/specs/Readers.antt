@@ -68,7 +68,8 @@ optional_in field range (Some d) = integer_in field range d >>= λ n. Ok (Some n
 -- the bits of a port, 32 or 64
 abbrev pub port_width_in : Field → Absent ℕ → Option Data → Result ℕ JobFault
 port_width_in field absent found =
-    number_in field (32 to 64) absent found >>= λ n. demand field ((n == 32) || (n == 64)) >>= λ _. Ok n
+    number_in field (32 to 64) absent found
+    >>= λ n. demand field ((n == 32) || (n == 64)) >>= λ _. Ok n
 
 -- a 0 or a 1
 abbrev pub flag_in : Field → Absent ℕ → Option Data → Result Bool JobFault
@@ -90,7 +91,8 @@ meaning [] text = None
 meaning (word ∷ words) text = if bytes_eq word.0 text then Some word.1 else meaning words text
 
 -- a text that is one of some words, each with its meaning
-abbrev pub choice_in : {A : Type 0} → Field → List (List ℕ × A) → Absent A → Option Data → Result A JobFault
+abbrev pub choice_in
+    : {A : Type 0} → Field → List (List ℕ × A) → Absent A → Option Data → Result A JobFault
 choice_in field words absent None = where_absent field absent
 choice_in field words absent (Some d) =
     of_kind field (as_str d) >>= λ text. ok_or (meaning words text) (OutOfRange field)
@@ -117,7 +119,8 @@ integers_in field counts range ds =
     each (integer_in field range) ds
 
 -- an array of so many such integers
-abbrev pub numbers_in : Field → Range → Range → Absent (List ℕ) → Option Data → Result (List ℕ) JobFault
+abbrev pub numbers_in
+    : Field → Range → Range → Absent (List ℕ) → Option Data → Result (List ℕ) JobFault
 numbers_in field counts range absent None = where_absent field absent
 numbers_in field counts range absent (Some d) =
     of_kind field (as_array d) >>= integers_in field counts range

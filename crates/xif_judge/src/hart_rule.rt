@@ -12,7 +12,8 @@ use xif_signals::{Bus, Channel, Rule};
 
 /// Judges H1 in a cycle.
 pub fn judge_harts(params: &Params, bus: &Bus) -> Result<(), Fault>
-    ensures fault { (p : Past) → result ≡ answer_of (first_fault_in (H1 ∷ []) params.now p bus.now) }
+    ensures fault { (p : Past) →
+        result ≡ answer_of (first_fault_in (H1 ∷ []) params.now p bus.now) }
     ensures harts { OnOk result (HoldsH1 params.now bus.now) }
 {
     match lost_channel(params, bus) {

@@ -7,8 +7,8 @@
 //! each a predicate on what came before and on the bus of a cycle, and `specs/Legal.antt` which
 //! rule holds where, who owes it, and which sessions are legal. `specs/Uses.antt` has the list of
 //! all uses of a session, of which `facts_law` shows that the latest use of each key is enough for
-//! I2 and C3. `specs/Tests.antt` has the rules as tests, and the first fault of a cycle, which the code
-//! of a judge cites: `rule_law` says that a test passes if and only if its rule holds, and
+//! I2 and C3. `specs/Tests.antt` has the rules as tests, and the first fault of a cycle, which the
+//! code of a judge cites: `rule_law` says that a test passes if and only if its rule holds, and
 //! `fault_law` that the fault is that of the first rule that fails.
 #![tactic(auto)]
 

@@ -112,7 +112,8 @@ impl UseTable {
     pub fn end_retracted(&mut self, key: Key)
         requires key { IsKey self.old.params key }
         requires ongoing { IsSomeAnd (use_of self.old key) (λ latest. latest.ongoing ≡ true) }
-        ensures latest { Sets self.old self.new key (option_map spec.retracted (use_of self.old key)) }
+        ensures latest { Sets self.old self.new key
+            (option_map spec.retracted (use_of self.old key)) }
         ensures facts { (params : Params) (facts : Facts) → Represents self.old params facts
             → Represents self.new params facts }
     {
@@ -152,7 +153,8 @@ impl UseTable {
     pub fn operands(&mut self, key: Key, flags: ReadFlags)
         requires key { IsKey self.old.params key }
         requires waiting { IsSomeAnd (use_of self.old key) (λ latest. latest.operands ≡ None) }
-        ensures latest { Sets self.old self.new key (option_map (spec.with_flags flags) (use_of self.old key)) }
+        ensures latest { Sets self.old self.new key
+            (option_map (spec.with_flags flags) (use_of self.old key)) }
         ensures facts { (params : Params) (facts : Facts) → Represents self.old params facts
             → Represents self.new params (session.given (session.same_key key) flags.0 facts) }
     {
@@ -171,7 +173,8 @@ impl UseTable {
     pub fn finish(&mut self, key: Key)
         requires key { IsKey self.old.params key }
         requires may { IsSomeAnd (use_of self.old key) (λ latest. MayFinish (spec.fact_of latest)) }
-        ensures latest { Sets self.old self.new key (option_map spec.with_end (use_of self.old key)) }
+        ensures latest { Sets self.old self.new key
+            (option_map spec.with_end (use_of self.old key)) }
         ensures facts { (params : Params) (facts : Facts) → Represents self.old params facts
             → Represents self.new params (session.ended (session.same_key key) facts) }
     {
