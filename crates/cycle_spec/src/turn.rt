@@ -1,0 +1,36 @@
+//! The transactions of a channel, counted.
+
+use xif_base::Key;
+
+/// Which transaction of its kind a cycle belongs to, and which cycle of that transaction it is:
+/// both are counted from 0.
+#[derive(Clone, Copy, Debug, PartialEq, Eq)]
+pub struct Turn {
+    pub number: u64,
+    pub age: u64,
+}
+
+/// For whom a transaction is: the key that the channel carries, and which use of the key. The core
+/// names a use by the number of its entry, the engine by the cycle in which it started.
+#[derive(Clone, Copy, Debug, PartialEq, Eq)]
+pub struct Owner {
+    pub key: Key,
+    pub number: u64,
+}
+
+/// A transaction that waits for its handshake.
+#[derive(Clone, Copy, Debug, PartialEq, Eq)]
+pub struct Transaction {
+    pub owner: Owner,
+    /// Its number, and the age of its next cycle.
+    pub turn: Turn,
+}
+
+/// The transactions of a channel so far.
+#[derive(Clone, Copy, Debug, PartialEq, Eq)]
+pub struct Transactions {
+    /// The one of the last cycle, if it waits for its handshake.
+    pub waiting: Option<Transaction>,
+    /// How many began.
+    pub begun: u64,
+}
