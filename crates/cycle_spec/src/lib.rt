@@ -21,6 +21,6 @@ mod use_of;
 
 pub use choices::{Choices, Executed, Mode, Presented};
 pub use entry::{Entry, EntryKind, Operand};
-pub use log::{Cut, CycleLog, Dispatch};
+pub use log::{Cut, CycleLog, Dispatch, End};
 pub use turn::{Owner, Transaction, Transactions, Turn};
 pub use use_of::Use;

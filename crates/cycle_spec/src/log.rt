@@ -31,3 +31,12 @@ pub struct CycleLog {
     /// The address of the next instruction to retire, after the cycle.
     pub pc: u32,
 }
+
+/// How a run ends.
+#[derive(Clone, Copy, Debug, PartialEq, Eq)]
+pub enum End {
+    /// The instruction at the final address stops the machine.
+    Stopped(StopCause),
+    /// The budget of cycles passed without a stop.
+    Budget,
+}
