@@ -24,11 +24,10 @@ use Rattle.cycle_spec.specs.declared.entry.EntryKind.TheVariants.{Local, Unknown
 use Rattle.cycle_spec.specs.declared.log.Cut.{Cut}
 use Rattle.cycle_spec.specs.declared.log.CycleLog.{CycleLog}
 use Rattle.cycle_spec.specs.declared.log.Dispatch.{Dispatch}
-use Rattle.cycle_spec.specs.declared.turn.Owner.{Owner}
 use Rattle.cycle_spec.specs.Flight.{is_unknown_kind, is_row, is_control_row, is_control, holds_id, with_response, with_sent, with_release, with_result, with_outcome, kind_at, new_entry, free_id}
 use Rattle.cycle_spec.specs.Turns.{turn_of, is_past, transactions_after}
 use Rattle.cycle_spec.specs.State.{Core}
-use Rattle.cycle_spec.specs.Choices.{choices, owner_of}
+use Rattle.cycle_spec.specs.Choices.{choices}
 
 -- ---- what the core drives
 
@@ -71,8 +70,8 @@ abbrev pub core_drive : Core → CpuOut
 core_drive w = cpu_out (choices w)
 
 -- The result channel has one transaction at a time, and the core doesn't ask for whom it is.
-abbrev pub result_owner : Owner
-result_owner = record { key = record { hart = 0; id = 0 }; number = 0 }
+abbrev pub result_owner : ℕ
+result_owner = 0
 
 -- A result is taken once its transaction has waited for its delay (CV-X-IF 1.0.0, "Result
 -- interface").
@@ -222,11 +221,11 @@ mode_after Running = Running
 mode_after DrainBegins = Draining
 mode_after Draining = Draining
 
-abbrev pub present_owner : Option Presented → Option Owner
-present_owner present = option_map (λ x. owner_of x.entry) present
+abbrev pub present_owner : Option Presented → Option ℕ
+present_owner present = option_map (λ x. x.entry.seq) present
 
 -- whom the result channel is for, if its valid is 1
-abbrev pub result_owner_on : Bus → Option Owner
+abbrev pub result_owner_on : Bus → Option ℕ
 result_owner_on b = if b.result_valid then Some result_owner else None
 
 -- by what it chose, by the bus, and by the answers of the predictor

@@ -1,5 +1,5 @@
--- The engine in a cycle: what the coprocessors drive, and their state after the cycle. Commits and
--- results count by their uses, so that the engine serves any core that keeps the rules.
+-- The engine in a cycle: what the coprocessors drive, and their state after the cycle. It serves any
+-- core that keeps the rules of its side.
 use Rattle.std.specs.Prelude.{ℕ, ◌+◌, ◌==◌, ◌&&◌, ◌||◌, not, nat_le, Bool, true, false, if◌then◌else◌, Option, Some, None, is_some, is_none, List, [], ◌∷◌, ◌++◌, map, filter, find, slice_index_or}
 use Rattle.std.specs.Option.{option_map, option_map_or}
 use Rattle.std.specs.List.{list_any, last_or}
@@ -13,9 +13,9 @@ use Rattle.coproc_config.specs.Apply.{Outcome, applied}
 use Rattle.xif_signals.specs.declared.bus.CpuOut.{CpuOut}
 use Rattle.xif_signals.specs.declared.bus.CopOut.{CopOut}
 use Rattle.xif_signals.specs.declared.bus.CpuIn.{CpuIn}
-use Rattle.xif_session.specs.Facts.{same_key, is_covered}
+use Rattle.xif_session.specs.declared.fact.Decision.TheVariants.{Undecided}
+use Rattle.xif_session.specs.Facts.{same_key, is_undecided, is_released, is_killed, is_covered, decision_after}
 use Rattle.xif_session.specs.Tests.{is_within}
-use Rattle.cycle_spec.specs.declared.turn.Owner.{Owner}
 use Rattle.cycle_spec.specs.declared.turn.Transaction.{Transaction}
 use Rattle.cycle_spec.specs.declared.use_of.Use.{Use}
 use Rattle.cycle_spec.specs.Turns.{turn_of, is_past, transactions_after}
@@ -45,7 +45,7 @@ has_operands u = u.given || (register_read_of u.hit == 0)
 
 -- it is no longer speculative, and the registers that it reads are here
 abbrev pub is_complete : Use → Bool
-is_complete u = u.released && has_operands u
+is_complete u = is_released u.decision && has_operands u
 
 -- ---- the keys of the channels
 
@@ -58,20 +58,20 @@ register_key cpu = record { hart = cpu.register_hartid; id = cpu.register_id }
 abbrev pub commit_key : CpuOut → Key
 commit_key cpu = record { hart = cpu.commit_hartid; id = cpu.commit_id }
 
--- the latest use of a key that is neither killed nor finished
+-- the latest use of a key
 abbrev pub latest : Key → List Use → Option Use
 latest key us = last_or None (filter (has_key key) us)
 
 -- ---- the start of a use
 
-abbrev pub is_owned_by : Owner → Use → Bool
-is_owned_by owner u = has_key owner.key u && has_start owner.number u
-
 -- The issue transaction of the last cycle goes on: it waits for its handshake, its key is offered
 -- again, and its use wasn't killed.
+abbrev pub is_offered_on : Key → (start : ℕ) → Use → Bool
+is_offered_on key start u = has_key key u && (has_start start u && not (is_killed u.decision))
+
 abbrev pub goes_on_in : Option Transaction → Key → List Use → Bool
 goes_on_in None key us = false
-goes_on_in (Some t) key us = same_key t.owner.key key && list_any (is_owned_by t.owner) us
+goes_on_in (Some t) key us = list_any (is_offered_on key t.owner) us
 
 abbrev pub goes_on : Engine → CpuOut → Bool
 goes_on e cpu = goes_on_in e.issue_turns.waiting (issue_key cpu) e.uses
@@ -90,12 +90,13 @@ new_use key start word = record {
   order = 0;
   given = false;
   lanes = 0 ∷ 0 ∷ 0 ∷ [];
-  released = false;
+  decision = Undecided;
+  finished = false;
   ready = None;
   result = 0;
 }
 
--- it takes the place of an older use of its key
+-- it takes the place of the older use of its key
 abbrev pub with_start : Use → List Use → List Use
 with_start u us = filter (λ other. not (has_key u.key other)) us ++ u ∷ []
 
@@ -109,15 +110,13 @@ started_uses e cpu = start_step (starts e cpu) cpu e.cycle e.uses
 
 -- ---- the issue channel (CV-X-IF 1.0.0, "Issue interface")
 
-abbrev pub start_or : Option Use → (cycle : ℕ) → ℕ
-start_or found cycle = option_map_or (λ u. u.start) found cycle
+-- the start of the latest use of a key; without one, this cycle stands for it
+abbrev pub start_of : Key → List Use → (cycle : ℕ) → ℕ
+start_of key us cycle = option_map_or (λ u. u.start) (latest key us) cycle
 
--- the latest use of a key; without one, this cycle stands for its start
-abbrev pub owner_by : Key → List Use → (cycle : ℕ) → Owner
-owner_by key us cycle = record { key = key; number = start_or (latest key us) cycle }
-
-abbrev pub issue_owner : Engine → CpuOut → Owner
-issue_owner e cpu = owner_by (issue_key cpu) (started_uses e cpu) e.cycle
+-- the use on the channel, by its start
+abbrev pub issue_start : Engine → CpuOut → ℕ
+issue_start e cpu = start_of (issue_key cpu) (started_uses e cpu) e.cycle
 
 -- what the units answer to the word
 abbrev pub offered_hit : Engine → CpuOut → Option Hit
@@ -131,7 +130,7 @@ may_answer split (Some hit) rs_valid = split || is_within hit.register_read.0 rs
 abbrev pub issue_ready : Engine → CpuOut → Bool
 issue_ready e cpu =
     cpu.issue_valid
-    && (is_past e.script.issue (turn_of e.issue_turns (issue_owner e cpu))
+    && (is_past e.script.issue (turn_of e.issue_turns (issue_start e cpu))
     && may_answer e.params.split (offered_hit e cpu) cpu.register_rs_valid)
 
 -- ---- the register channel (CV-X-IF 1.0.0, "Register interface")
@@ -140,43 +139,36 @@ issue_ready e cpu =
 abbrev pub register_use : Engine → CpuOut → Option Use
 register_use e cpu = latest (register_key cpu) (started_uses e cpu)
 
--- The register transaction of the last cycle goes on with the same key, unless another use of the
--- key starts, and also if its use is killed meanwhile.
-abbrev pub register_goes_on : Engine → CpuOut → Transaction → Bool
-register_goes_on e cpu t =
-    same_key t.owner.key (register_key cpu)
-    && not (starts e cpu && same_key (issue_key cpu) (register_key cpu))
+abbrev pub register_start : Engine → CpuOut → ℕ
+register_start e cpu = start_of (register_key cpu) (started_uses e cpu) e.cycle
 
-abbrev pub register_owner_by : Engine → CpuOut → Option Transaction → Owner
-register_owner_by e cpu None = owner_by (register_key cpu) (started_uses e cpu) e.cycle
-register_owner_by e cpu (Some t) =
-    if register_goes_on e cpu t
-    then t.owner
-    else owner_by (register_key cpu) (started_uses e cpu) e.cycle
-
-abbrev pub register_owner : Engine → CpuOut → Owner
-register_owner e cpu = register_owner_by e cpu e.register_turns.waiting
-
--- a use that was accepted before takes its registers once all that it reads are here
+-- A use that was accepted before this cycle, and not killed before it, takes its registers once all
+-- that it reads are here.
 abbrev pub may_take : Option Use → (rs_valid : ℕ) → Bool
 may_take None rs_valid = false
-may_take (Some u) rs_valid = is_taken u && is_within (register_read_of u.hit) rs_valid
+may_take (Some u) rs_valid =
+    is_taken u
+    && (not (is_killed u.decision) && is_within (register_read_of u.hit) rs_valid)
 
 -- without X_ISSUE_REGISTER_SPLIT both handshakes are one
 abbrev pub register_ready : Engine → CpuOut → Bool
 register_ready e cpu =
     if e.params.split
     then cpu.register_valid
-    && (is_past e.script.register (turn_of e.register_turns (register_owner e cpu))
+    && (is_past e.script.register (turn_of e.register_turns (register_start e cpu))
     && may_take (register_use e cpu) cpu.register_rs_valid)
     else issue_ready e cpu
 
 -- ---- the result channel (CV-X-IF 1.0.0, "Result interface")
 
--- a result may be offered once the delay has passed that begins behind the ready cycle
+-- a ready use that isn't finished, once the delay has passed that begins behind its ready cycle
+abbrev pub is_past_ready : (delay cycle : ℕ) → Option ℕ → Bool
+is_past_ready delay cycle None = false
+is_past_ready delay cycle (Some ready) = nat_le (ready + 1 + delay) cycle
+
 abbrev pub is_due : (delays : List ℕ) → (cycle : ℕ) → Use → Bool
 is_due delays cycle u =
-    option_map_or (λ ready. nat_le (ready + 1 + delay_of delays u.order) cycle) u.ready false
+    not u.finished && is_past_ready (delay_of delays u.order) cycle u.ready
 
 abbrev pub offered_by : Option ℕ → (delays : List ℕ) → (cycle : ℕ) → List Use → Option Use
 offered_by None delays cycle us = find (is_due delays cycle) us
@@ -262,34 +254,32 @@ abbrev pub is_in_group : (kill : Bool) → Use → Use → Bool
 is_in_group kill named u =
     (u.key.hart == named.key.hart) && is_covered kill named.start u.start
 
-abbrev pub with_release : (named : Use) → Use → Use
-with_release named u = record u { released = u.released || is_in_group false named u }
+abbrev pub with_decision : (kill : Bool) → (named : Use) → Use → Use
+with_decision kill named u = record u {
+  decision = decision_after (is_in_group kill named u) kill u.decision;
+}
 
-abbrev pub is_kept : (named : Use) → Use → Bool
-is_kept named u = u.released || not (is_in_group true named u)
-
-abbrev pub decided : (kill : Bool) → (named : Use) → List Use → List Use
-decided true named us = filter (is_kept named) us
-decided false named us = map (with_release named) us
-
--- It is effective where the use that it names is undecided. A use that was killed is gone, so that
--- its kill is repeated without effect.
+-- it is effective where the use that it names is undecided
 abbrev pub decided_by : (kill : Bool) → Option Use → List Use → List Use
 decided_by kill None us = us
-decided_by kill (Some named) us = if named.released then us else decided kill named us
+decided_by kill (Some named) us =
+    if is_undecided named.decision then map (with_decision kill named) us else us
 
 abbrev pub decide_step : CpuOut → List Use → List Use
 decide_step cpu us =
     if cpu.commit_valid then decided_by cpu.commit_kill (latest (commit_key cpu) us) us else us
 
--- at the result handshake the use ends
-abbrev pub without : Option Use → List Use → List Use
-without None us = us
-without (Some u) us = filter (λ other. not (has_start u.start other)) us
+-- at the result handshake the use is finished
+abbrev pub with_end : (start : ℕ) → Use → Use
+with_end start u = record u { finished = u.finished || has_start start u }
+
+abbrev pub ended : Option Use → List Use → List Use
+ended None us = us
+ended (Some u) us = map (with_end u.start) us
 
 abbrev pub end_step : Option Use → CopOut → CpuIn → List Use → List Use
 end_step offered cop input us =
-    if cop.result_valid && input.result_ready then without offered us else us
+    if cop.result_valid && input.result_ready then ended offered us else us
 
 -- ---- the units: the uses of a hart are applied in the order of their issue handshakes
 
@@ -301,9 +291,10 @@ outcome_by set (Some hit) state lanes = applied set hit state lanes
 abbrev pub outcome_of : List UnitTable → List (List ℕ) → Use → Outcome
 outcome_of set state u = outcome_by set u.hit state u.lanes
 
--- it is an accepted use of a hart that isn't ready yet; each other use is passed over
+-- it is an accepted use of a hart, neither killed nor ready; each other use is passed over
 abbrev pub is_next : (hart : ℕ) → Use → Bool
-is_next hart u = (u.key.hart == hart) && (is_taken u && is_none u.ready)
+is_next hart u =
+    (u.key.hart == hart) && (is_taken u && (not (is_killed u.decision) && is_none u.ready))
 
 -- it is ready with this cycle, and has its result
 abbrev pub with_ready : (cycle result : ℕ) → Use → Use
@@ -355,7 +346,7 @@ units_ahead e hart = units_behind e.set has_operands hart (units_of e hart) e.us
 
 abbrev pub answered_uses : Engine → CpuOut → CopOut → List Use
 answered_uses e cpu cop =
-    answer_step (issue_owner e cpu).number (offered_hit e cpu) e.accepted cpu cop
+    answer_step (issue_start e cpu) (offered_hit e cpu) e.accepted cpu cop
     (started_uses e cpu)
 
 abbrev pub given_uses : Engine → CpuOut → CopOut → List Use
@@ -373,8 +364,8 @@ settled_uses e cpu cop input =
 
 -- ---- the engine after a cycle
 
-abbrev pub owner_if : (valid : Bool) → Owner → Option Owner
-owner_if valid owner = if valid then Some owner else None
+abbrev pub owner_if : (valid : Bool) → (start : ℕ) → Option ℕ
+owner_if valid start = if valid then Some start else None
 
 -- a result waits for its handshake
 abbrev pub result_waiting_after : Option Use → CpuIn → Option ℕ
@@ -392,10 +383,10 @@ engine_clock e cpu cop input = record e {
   accepted = accepted_after e.accepted cpu cop;
   units = units_in_harts e.set 0 e.units (ended_uses e cpu cop input);
   issue_turns =
-      transactions_after e.issue_turns (owner_if cpu.issue_valid (issue_owner e cpu))
+      transactions_after e.issue_turns (owner_if cpu.issue_valid (issue_start e cpu))
       cop.issue_ready;
   register_turns =
-      transactions_after e.register_turns (owner_if cpu.register_valid (register_owner e cpu))
+      transactions_after e.register_turns (owner_if cpu.register_valid (register_start e cpu))
       cop.register_ready;
   result_waiting = result_waiting_after (offered_use e) input;
 }

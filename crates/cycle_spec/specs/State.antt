@@ -59,8 +59,7 @@ pub record Engine : Type 0 where
   pub script : Lists
   -- the number of the next cycle
   pub cycle : ℕ
-  -- The uses in the order of their starts, and of each key the latest alone. One that is killed or
-  -- finished is gone.
+  -- the latest use of each key, in the order of their starts
   pub uses : List Use
   -- how many uses were accepted
   pub accepted : ℕ

@@ -22,5 +22,5 @@ mod use_of;
 pub use choices::{Choices, Executed, Mode, Presented};
 pub use entry::{Entry, EntryKind, Operand};
 pub use log::{Cut, CycleLog, Dispatch, End};
-pub use turn::{Owner, Transaction, Transactions, Turn};
+pub use turn::{Transaction, Transactions, Turn};
 pub use use_of::Use;

@@ -1,7 +1,5 @@
 //! The transactions of a channel, counted.
 
-use xif_base::Key;
-
 /// Which transaction of its kind a cycle belongs to, and which cycle of that transaction it is:
 /// both are counted from 0.
 #[derive(Clone, Copy, Debug, PartialEq, Eq)]
@@ -10,18 +8,12 @@ pub struct Turn {
     pub age: u64,
 }
 
-/// For whom a transaction is: the key that the channel carries, and which use of the key. The core
-/// names a use by the number of its entry, the engine by the cycle in which it started.
-#[derive(Clone, Copy, Debug, PartialEq, Eq)]
-pub struct Owner {
-    pub key: Key,
-    pub number: u64,
-}
-
 /// A transaction that waits for its handshake.
 #[derive(Clone, Copy, Debug, PartialEq, Eq)]
 pub struct Transaction {
-    pub owner: Owner,
+    /// For whom it is. The core names a use by the number of its entry, the engine by the cycle in
+    /// which it started.
+    pub owner: u64,
     /// Its number, and the age of its next cycle.
     pub turn: Turn,
 }

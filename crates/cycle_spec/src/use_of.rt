@@ -2,6 +2,7 @@
 
 use coproc_config::Hit;
 use xif_base::Key;
+use xif_session::Decision;
 
 /// One instruction that was offered under a key, and what the engine knows of it.
 #[derive(Clone, Copy, Debug, PartialEq, Eq)]
@@ -21,8 +22,10 @@ pub struct Use {
     pub given: bool,
     /// The lanes at the register handshake.
     pub lanes: [u64; 3],
-    /// It is no longer speculative.
-    pub released: bool,
+    /// What the core decided about it.
+    pub decision: Decision,
+    /// Its result was taken.
+    pub finished: bool,
     /// The cycle from which on its result may be offered, but for the delay of a script.
     pub ready: Option<u64>,
     /// Its result, once it is ready.
