@@ -1,7 +1,7 @@
 -- What the core does in a cycle, all of it chosen from the state at its start.
-use Rattle.std.specs.Prelude.{ℕ, ◌+◌, ◌-◌, ◌%◌, ◌^◌, ◌==◌, ◌&&◌, ◌||◌, not, nat_lt, Bool, false, if◌then◌else◌, Option, Some, None, is_some, is_none, List, [], ◌∷◌, length, take, drop, find}
+use Rattle.std.specs.Prelude.{ℕ, ◌+◌, ◌-◌, ◌%◌, ◌^◌, ◌==◌, ◌&&◌, not, nat_lt, Bool, false, if◌then◌else◌, Option, Some, None, is_some, is_none, List, [], ◌∷◌, length, take, drop, find}
 use Rattle.std.specs.Option.{option_or, option_and_then, option_map, option_map_or}
-use Rattle.std.specs.List.{list_any}
+use Rattle.std.specs.List.{list_any, range_with_len}
 use Rattle.rv32_table.specs.declared.instr.Instr.{Instr}
 use Rattle.rv32_table.specs.Instr.{sources_of, source_field}
 use Rattle.rv32_table.specs.Word.{wrapped}
@@ -71,14 +71,14 @@ execution w es =
 
 -- ---- cuts
 
--- an address is one of so many from another on, modulo 2^32
-abbrev pub is_among : (first count address : ℕ) → Bool
-is_among first count address = nat_lt (wrapped (address + 2 ^ 32 - first)) count
+-- an address is that of one of the four bytes of a word, modulo 2^32
+abbrev pub is_in_word : (pc address : ℕ) → Bool
+is_in_word pc address = nat_lt (wrapped (address + 2 ^ 32 - pc)) 4
 
--- a byte of a store is one of the four bytes of an entry's word: the first byte of one is one of the
--- other's
+-- a byte of a store is one of an entry's word
 abbrev pub is_hit : Store → Entry → Bool
-is_hit store e = is_among e.pc 4 store.addr || is_among store.addr store.width e.pc
+is_hit store e =
+    list_any (λ k. is_in_word e.pc (store.addr + k)) (range_with_len 0 store.width)
 
 abbrev pub is_any_hit : Option Store → List Entry → Bool
 is_any_hit None younger = false
@@ -125,8 +125,8 @@ presented_entry split offer es = if split then find is_waiting es else offer
 abbrev pub is_late : Core → Entry → Bool
 is_late w e = not (is_past w.script.operand (turn_of w.register_turns e.seq))
 
--- A half of a lane carries a register of a word: the low half that of the lane's field, and the high
--- half, below X_DUALREAD, the register behind an even one.
+-- Which halves of a lane carry a register of a word: the low half that of the lane's field, and the
+-- high half, below X_DUALREAD, the register behind an even one.
 abbrev pub has_half : Params → (word lane : ℕ) → Half → Bool
 has_half p word lane Low = nat_lt lane p.num_rs
 has_half p word lane High = nat_lt lane p.dual_read && (source_field word lane % 2 == 0)
@@ -159,13 +159,18 @@ abbrev pub lane_of : Core → Entry → (lane : ℕ) → ℕ
 lane_of w e lane =
     lane_with (value_or_zero (half_of w e lane Low)) (value_or_zero (half_of w e lane High))
 
--- what the channel carries for an entry
+-- the lanes and their flags for an entry
 abbrev pub presentation_of : Core → Entry → Presented
 presentation_of w e = record {
   entry = e;
   rs_valid = flags_of w e;
   lanes = lane_of w e 0 ∷ lane_of w e 1 ∷ lane_of w e 2 ∷ [];
 }
+
+-- what it carries, with the word on the issue channel, and for one of these entries
+abbrev pub present_in : Core → (offer : Option Entry) → List Entry → Option Presented
+present_in w offer es =
+    option_map (presentation_of w) (presented_entry w.params.split offer es)
 
 -- ---- the commit channel (CV-X-IF 1.0.0, "Commit interface")
 
@@ -218,7 +223,7 @@ choices_with w retire execute cut = record no_choices {
   execute = execute;
   cut = cut;
   offer = offer_in w.flight;
-  present = option_map (presentation_of w) (presented_entry w.params.split (offer_in w.flight) w.flight);
+  present = present_in w (offer_in w.flight) w.flight;
   kill = kill_among (gone_by cut w.flight) (offer_in w.flight);
   release = release_in cut w.flight;
   dispatch = may_dispatch w cut;
@@ -241,8 +246,7 @@ abbrev pub choices_draining : Core → (stay : ℕ) → Choices
 choices_draining w stay = record no_choices {
   retire = retirement (take stay w.flight);
   execute = execution w (take stay w.flight);
-  present = option_map (presentation_of w)
-      (presented_entry w.params.split None (take stay w.flight));
+  present = present_in w None (take stay w.flight);
 }
 
 -- A drain begins: the entries up to the youngest released use stay, and the others are dropped.

@@ -1,5 +1,5 @@
--- The engine in a cycle: what the coprocessors drive, and their state after the cycle. It serves any
--- core that keeps the rules of its side.
+-- The engine in a cycle: what the coprocessors drive, and their state after the cycle. It serves
+-- any core that keeps the rules of its side.
 use Rattle.std.specs.Prelude.{ℕ, ◌+◌, ◌==◌, ◌&&◌, ◌||◌, not, nat_le, Bool, true, false, if◌then◌else◌, Option, Some, None, is_some, is_none, List, [], ◌∷◌, ◌++◌, map, filter, find, slice_index_or}
 use Rattle.std.specs.Option.{option_map, option_map_or}
 use Rattle.std.specs.List.{list_any, last_or}
@@ -29,8 +29,8 @@ has_key key u = same_key u.key key
 abbrev pub has_start : (start : ℕ) → Use → Bool
 has_start start u = u.start == start
 
-abbrev pub is_taken : Use → Bool
-is_taken u = is_some u.hit
+abbrev pub is_accepted : Use → Bool
+is_accepted u = is_some u.hit
 
 -- the flags of the issue response; a refused word has none
 abbrev pub writeback_of : Option Hit → ℕ
@@ -85,7 +85,6 @@ new_use key start word = record {
   key = key;
   start = start;
   word = word;
-  issued = false;
   hit = None;
   order = 0;
   given = false;
@@ -147,7 +146,7 @@ register_start e cpu = start_of (register_key cpu) (started_uses e cpu) e.cycle
 abbrev pub may_take : Option Use → (rs_valid : ℕ) → Bool
 may_take None rs_valid = false
 may_take (Some u) rs_valid =
-    is_taken u
+    is_accepted u
     && (not (is_killed u.decision) && is_within (register_read_of u.hit) rs_valid)
 
 -- without X_ISSUE_REGISTER_SPLIT both handshakes are one
@@ -215,10 +214,9 @@ engine_drive e cpu =
 
 -- ---- the steps on the uses behind the start, in their order
 
--- at the issue handshake the use is answered; the accepted ones are numbered
+-- at the issue handshake the use is answered; those that are accepted are numbered
 abbrev pub with_answer : (start : ℕ) → Option Hit → (order : ℕ) → Use → Use
 with_answer start hit order u = record u {
-  issued = u.issued || has_start start u;
   hit = if has_start start u then hit else u.hit;
   order = if has_start start u then order else u.order;
 }
@@ -294,7 +292,7 @@ outcome_of set state u = outcome_by set u.hit state u.lanes
 -- it is an accepted use of a hart, neither killed nor ready; each other use is passed over
 abbrev pub is_next : (hart : ℕ) → Use → Bool
 is_next hart u =
-    (u.key.hart == hart) && (is_taken u && (not (is_killed u.decision) && is_none u.ready))
+    (u.key.hart == hart) && (is_accepted u && (not (is_killed u.decision) && is_none u.ready))
 
 -- it is ready with this cycle, and has its result
 abbrev pub with_ready : (cycle result : ℕ) → Use → Use

@@ -1,4 +1,5 @@
--- The instructions in flight, the oldest first: what their list says, and how an entry of it changes.
+-- The instructions in flight, the oldest first: what their list says, and how an entry of it
+-- changes.
 use Rattle.std.specs.Prelude.{ℕ, ◌+◌, ◌%◌, ◌==◌, ◌&&◌, ◌||◌, not, nat_le, Bool, true, false, if◌then◌else◌, Option, Some, None, is_some, is_none, unwrap_or, List, [], ◌∷◌, ◌++◌, length, filter, find}
 use Rattle.std.specs.Option.{option_map_or}
 use Rattle.std.specs.List.{list_any, last_or, range_with_len}

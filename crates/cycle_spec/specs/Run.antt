@@ -87,7 +87,7 @@ has_no_entry (e ∷ es) = false
 abbrev pub is_empty : Core → Bool
 is_empty w = has_no_entry w.flight
 
--- More cycles than a drain takes: what is in flight retires within so many cycles each.
+-- A drain is given so many cycles for each instruction that may be in flight.
 abbrev pub drain_limit : Setup → ℕ
 drain_limit s = s.window * (8 * largest_of s.script + 40)
 

@@ -14,8 +14,8 @@ turn_in None begun owner = record { number = begun; age = 0 }
 turn_in (Some t) begun owner =
     if t.owner == owner then t.turn else record { number = begun; age = 0 }
 
--- the turn of a cycle that is for an owner: the transaction that waits for a handshake goes on if it
--- is for the same one, and else another begins
+-- The turn of a cycle that is for an owner: the transaction that waits for its handshake goes on if
+-- it is for the same one, and else another begins.
 abbrev pub turn_of : Transactions → (owner : ℕ) → Turn
 turn_of ts owner = turn_in ts.waiting ts.begun owner
 

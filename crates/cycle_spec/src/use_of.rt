@@ -12,8 +12,6 @@ pub struct Use {
     pub start: u64,
     /// The word of the instruction.
     pub word: u32,
-    /// It had its issue handshake.
-    pub issued: bool,
     /// The entry that takes it, once it is accepted.
     pub hit: Option<Hit>,
     /// Its number among the accepted uses of all harts, in the order of their issue handshakes.
