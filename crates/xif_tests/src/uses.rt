@@ -55,8 +55,7 @@ Taken Some(Use { start: 3, instr: 11, ongoing: false, \
     operands: Some(ReadFlags(1)), decision: Released, finished: false })
 ";
 
-/// A kill has to wait for the answered use before it; a release decides both; and a cleared table
-/// has no use.
+/// A kill has to wait for the answered use before it, and a release decides both.
 #[test]
 fn groups_are_decided_in_order(rt: HostRuntime) -> Result<(), Fail> {
     let text = text_of_decisions(rt.alloc())?;
@@ -76,8 +75,6 @@ fn text_of_decisions(alloc: Global) -> Result<String, Fail> {
     writeln!(text, "{:?}", uses.decide(second, false))?;
     writeln!(text, "{:?}", uses.decide(second, false))?;
     writeln!(text, "{:?}", uses.decide(first, true))?;
-    uses.clear();
-    writeln!(text, "{:?}", uses.latest(first))?;
     Ok(text)
 }
 
@@ -86,8 +83,17 @@ OutOfOrder
 Taken
 Repeat
 WasReleased
-None
 ";
+
+#[test]
+fn a_cleared_table_has_no_use(rt: HostRuntime) -> Result<(), Fail> {
+    let mut uses = UseTable::new(rt.alloc(), &PARAMS)?;
+    let key = Key { hart: 0, id: 0 };
+    uses.start(key, 0, 0x0b);
+    uses.clear();
+    assert_eq!(rt; uses.latest(key), None);
+    Ok(())
+}
 
 /// Valid, ready and id of a channel in each cycle, with what the cycle is.
 const CYCLES: [(bool, bool, u16, Phase); 6] = [
