@@ -7,13 +7,13 @@ use Rattle.std.proofs.lemmas.Option.{slice_get_within, get_or_from_slice_get}
 use Rattle.std.proofs.lemmas.Grind.{common_steps}
 use Rattle.cycle_spec.specs.declared.entry.Entry.{Entry}
 
-mapped_suc : (f : Entry → Entry) (xs : List Entry) (i : ℕ) (d : Entry) → i < length xs → set (map f (take i xs) ++ drop i xs) i (f (get_or (map f (take i xs) ++ drop i xs) i d)) ≡ map f (take (suc i) xs) ++ drop (suc i) xs
+mapped_suc : {X : Type 0} (f : X → X) (xs : List X) (i : ℕ) (d : X) → i < length xs → set (map f (take i xs) ++ drop i xs) i (f (get_or (map f (take i xs) ++ drop i xs) i d)) ≡ map f (take (suc i) xs) ++ drop (suc i) xs
 mapped_suc f [] i d h = grind arith
 mapped_suc f (x ∷ xs) zero d h = grind (arith, common_steps)
 mapped_suc f (x ∷ xs) (suc i) d h = ap (λ l. f x ∷ l) (mapped_suc f xs i d (omega arith))
 
 -- one more entry is changed
-pub mapped_more : (f : Entry → Entry) (xs ys : List Entry) (i : ℕ) (d : Entry) → i < length xs → ys ≡ map f (take i xs) ++ drop i xs → set ys i (f (get_or ys i d)) ≡ map f (take (i + 1) xs) ++ drop (i + 1) xs
+pub mapped_more : {X : Type 0} (f : X → X) (xs ys : List X) (i : ℕ) (d : X) → i < length xs → ys ≡ map f (take i xs) ++ drop i xs → set ys i (f (get_or ys i d)) ≡ map f (take (i + 1) xs) ++ drop (i + 1) xs
 mapped_more f xs ys i d h e =
     let next : suc i ≡ i + 1 = omega arith in
     ap (λ l. set l i (f (get_or l i d))) e ∙ mapped_suc f xs i d h ∙ ap (λ n. map f (take n xs) ++ drop n xs) next

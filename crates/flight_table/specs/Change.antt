@@ -1,5 +1,5 @@
 -- The changes of an entry, as one definition: the code has one loop for all of them.
-use Rattle.std.specs.Prelude.{ℕ}
+use Rattle.std.specs.Prelude.{ℕ, Bool, true, false}
 use Rattle.cycle_spec.specs.declared.entry.Entry.{Entry}
 use Rattle.cycle_spec.specs.Flight.{with_response, with_sent, with_release, with_result, with_line, with_stop}
 use Rattle.flight_table.specs.declared.change.Change.{Change}
@@ -13,3 +13,8 @@ changed (Result write) seq = with_result seq write
 changed (Done write store next) seq =
     with_line seq (record { pc = 0; word = 0; next = next; write = write; store = store })
 changed (Stop cause) seq = with_stop seq cause
+
+-- it leaves what the entries may write
+abbrev pub keeps_response : Change → Bool
+keeps_response (Response response) = false
+keeps_response _ = true

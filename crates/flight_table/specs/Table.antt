@@ -1,6 +1,8 @@
 -- What a table of the instructions in flight is seen as.
-use Rattle.std.specs.Prelude.{ℕ, Bool, List}
+use Rattle.std.specs.Prelude.{ℕ, Bool, List, Option}
+use Rattle.std.specs.Option.{option_map}
 use Rattle.cycle_spec.specs.declared.entry.Entry.{Entry}
+use Rattle.cycle_spec.specs.Flight.{youngest_writer}
 
 pub record Table : Type 0 where
   -- X_DUALWRITE: an unknown word without a response may write a pair of registers
@@ -11,3 +13,7 @@ pub record Table : Type 0 where
   pub next_seq : ℕ
   -- the oldest first
   pub entries : List Entry
+
+-- the number of the youngest entry that may write a register, if there is one
+abbrev pub writer_of : (dual_write : Bool) → List Entry → (r : ℕ) → Option ℕ
+writer_of dual_write es r = option_map (λ e. e.seq) (youngest_writer dual_write es r)

@@ -13,6 +13,7 @@ mod entry;
 mod registers;
 mod search;
 mod table;
+mod writers;
 
 pub use cycle_spec::{Entry, EntryKind, Operand};
 pub use registers::Registers;

@@ -1,5 +1,5 @@
 //! What is found among the entries of a ring, the oldest first.
-ghost use Rattle.std.specs.Prelude.{◌≡◌, ◌<◌, ◌≤◌, ◌+◌, ◌^◌, ◌++◌, ◌∷◌, [], List, length, take, drop, slice_get, Some};
+ghost use Rattle.std.specs.Prelude.{◌≡◌, ◌<◌, ◌≤◌, ◌+◌, ◌^◌, ◌++◌, ◌∷◌, [], List, find, length, take, drop, slice_get, Some};
 ghost use Rattle.std.specs.List.{list_any};
 ghost use Rattle.cycle_spec.specs.Flight as flight;
 
@@ -35,6 +35,19 @@ pub(crate) fn place_of(ring: &HeapCircularBuffer<Entry>, seq: u64) -> usize
         }
     }
     count
+}
+
+/// The entry of a number.
+pub(crate) fn entry_of(ring: &HeapCircularBuffer<Entry>, seq: u64) -> Option<Entry>
+    ensures { result ≡ find (flight.has_seq seq) ring.now.items }
+{
+    for index in 0..ring.len() {
+        let entry = entry_at(ring, index);
+        if entry.seq == seq {
+            return Some(entry);
+        }
+    }
+    None
 }
 
 /// The youngest of the `count` oldest entries that may write a register.

@@ -1,15 +1,19 @@
 //! The table of the instructions in flight.
-ghost use Rattle.std.specs.Prelude.{◌≡◌, ◌<◌, ◌≤◌, ◌+◌, ◌^◌, ◌++◌, ◌∷◌, [], ℕ, length, take, map, IfOk, slice_get, Some};
+ghost use Rattle.std.specs.Prelude.{◌≡◌, ◌<◌, ◌≤◌, ◌+◌, ◌^◌, ◌++◌, ◌∷◌, [], ℕ, length, take, map, IfOk, slice_get, Some, None, true};
 ghost use Rattle.std.specs.Option.{option_map};
 ghost use Rattle.circular_buffer.specs.Buffer.{buffer};
 ghost use Rattle.inorder_machine.specs.declared.line.Retire.{Retire};
 ghost use Rattle.cycle_spec.specs.Flight as flight;
-ghost use Rattle.flight_table.specs.Change.{changed};
+ghost use Rattle.flight_table.specs.Change.{changed, keeps_response};
+ghost use Rattle.flight_table.specs.Table.{writer_of};
 
 use crate::change::{Change, change_all};
 use crate::entry::stop_by;
 use crate::registers::Registers;
-use crate::search::{certain, entry_at, free_id, operand_behind, place_of, ready_oldest};
+use crate::search::{
+    certain, entry_at, entry_of, free_id, operand_from, place_of, ready_oldest, youngest_writer,
+};
+use crate::writers::{Writers, forget, mend, mend_younger, note};
 use circular_buffer::HeapCircularBuffer;
 use cycle_spec::{Entry, EntryKind, Operand};
 use inorder_machine::{StopCause, Store, Write};
@@ -25,11 +29,12 @@ pub struct FlightTable {
     next_seq: u64,
     /// The entries, the oldest first.
     ring: HeapCircularBuffer<Entry>,
+    writers: Writers,
 }
 
 impl Model for FlightTable {
-    ghost use Rattle.std.specs.Prelude.{◌≤◌, length};
     ghost use Rattle.flight_table.specs.Table.{Table};
+    ghost use Rattle.flight_table.specs.Index.{IsKept};
 
     ghost Value = { Table };
 
@@ -40,7 +45,14 @@ impl Model for FlightTable {
       entries = t.ring.items;
     } };
 
-    ghost invariant = { λ t. (length t.ring.items ≤ t.ring.capacity) × (t.ring.capacity ≤ 32) };
+    ghost invariant = { λ t.
+        let table : Table = record {
+          dual_write = t.dual_write;
+          window = t.ring.capacity;
+          next_seq = t.next_seq;
+          entries = t.ring.items;
+        } in
+        IsKept table t.writers };
 }
 
 impl FlightTable {
@@ -58,6 +70,7 @@ impl FlightTable {
             dual_write: params.dual_write,
             next_seq: 0,
             ring: HeapCircularBuffer::with_capacity(alloc, usize::from(window))?,
+            writers: [None; 32],
         })
     }
 
@@ -85,6 +98,16 @@ impl FlightTable {
         &self.ring
     }
 
+    /// The rename index: for each register the number of the youngest entry that may write it, and
+    /// none where there is no such entry. x0 has none.
+    pub fn writers(&self) -> &[Option<u64>; 32]
+        ensures writers { (r : ℕ) → r < 32 → slice_get result.now r
+            ≡ Some (writer_of self.now.dual_write self.now.entries r) }
+        ensures zero { slice_get result.now 0 ≡ Some None }
+    {
+        &self.writers
+    }
+
     /// Adds the youngest entry, and returns its number. The word is 0 where there is none, and so
     /// is the id but for an unknown word.
     pub fn dispatch(&mut self, pc: u32, kind: EntryKind, word: u32, predicted: u32, id: u16) -> u64
@@ -98,37 +121,36 @@ impl FlightTable {
         } }
     {
         let seq = self.next_seq;
+        let entry = Entry {
+            seq,
+            pc,
+            word,
+            kind,
+            predicted,
+            id,
+            stop: stop_by(kind),
+            done: false,
+            write: Write::None,
+            store: None,
+            next: pc.wrapping_add(4),
+            response: None,
+            operands_sent: false,
+            released: false,
+        };
+        note(&mut self.writers, self.dual_write, &entry);
+        push(&mut self.ring, entry);
         self.next_seq += 1;
-        push(
-            &mut self.ring,
-            Entry {
-                seq,
-                pc,
-                word,
-                kind,
-                predicted,
-                id,
-                stop: stop_by(kind),
-                done: false,
-                write: Write::None,
-                store: None,
-                next: pc.wrapping_add(4),
-                response: None,
-                operands_sent: false,
-                released: false,
-            },
-        );
         seq
     }
 
     /// The register x`register` as the entry of a number reads it: what the youngest older entry
     /// that may write it leaves there, and without one what the register file has.
     pub fn operand(&self, seq: u64, register: u8, file: &Registers) -> Operand
+        requires { register < 32 }
         ensures { result ≡ flight.operand_at
             self.now.dual_write file.now self.now.entries seq register }
     {
-        let older = place_of(&self.ring, seq);
-        operand_behind(&self.ring, file, self.dual_write, older, register)
+        operand_from(file, self.older_writer(seq, register), register)
     }
 
     /// The oldest entry that may execute.
@@ -170,7 +192,12 @@ impl FlightTable {
           entries = map (flight.with_response seq response) self.old.entries;
         } }
     {
-        self.change(seq, Change::Response(response));
+        let answered = entry_of(&self.ring, seq);
+        change_all(&mut self.ring, seq, Change::Response(response));
+        let Some(entry) = answered else {
+            return;
+        };
+        mend(&mut self.writers, &self.ring, self.dual_write, &entry);
     }
 
     /// The coprocessor took the source registers of the word of a number.
@@ -215,6 +242,7 @@ impl FlightTable {
     {
         let older = place_of(&self.ring, seq);
         self.ring.truncate_back(older + 1);
+        mend_younger(&mut self.writers, &self.ring, self.dual_write, seq);
     }
 
     /// Removes all entries.
@@ -222,6 +250,7 @@ impl FlightTable {
         ensures { self.new ≡ record self.old { entries = [] } }
     {
         self.ring.clear();
+        self.writers = [None; 32];
     }
 
     /// Removes the oldest entry, and returns it.
@@ -230,7 +259,10 @@ impl FlightTable {
         ensures { self.old ≡ record self.new { entries = result ∷ self.new.entries } }
     {
         match self.ring.pop_front() {
-            Some(entry) => entry,
+            Some(entry) => {
+                forget(&mut self.writers, entry.seq);
+                entry
+            }
             None => unreachable!(),
         }
     }
@@ -242,7 +274,25 @@ impl FlightTable {
         free_id(&self.ring)
     }
 
+    /// The youngest entry that is older than the one of a number and may write a register.
+    fn older_writer(&self, seq: u64, register: u8) -> Option<Entry>
+        requires { register < 32 }
+        ensures { result ≡ flight.youngest_writer self.now.dual_write
+            (flight.older_than seq self.now.entries) register }
+    {
+        match self.writers[usize::from(register)] {
+            None => None,
+            Some(youngest) if youngest < seq => entry_of(&self.ring, youngest),
+            Some(_) => {
+                let older = place_of(&self.ring, seq);
+                youngest_writer(&self.ring, self.dual_write, older, register)
+            }
+        }
+    }
+
+    /// A change that leaves the index as it is.
     fn change(&mut self, seq: u64, change: Change)
+        requires { keeps_response change ≡ true }
         ensures { self.new ≡ record self.old {
           entries = map (changed change seq) self.old.entries;
         } }
