@@ -5,7 +5,9 @@
 //! retire, a free id. The contract of each call is a definition of `cycle_spec`'s `Flight` on the
 //! list of the entries, the oldest first. `specs/Table.antt` says what a table is seen as.
 //!
-//! The entries lie in a ring of the window's size, whose memory `FlightTable::new` takes.
+//! The entries lie in a ring of the window's size, whose memory `FlightTable::new` takes. Beside it
+//! stands a rename index, so that the youngest writer of a register is found without a search; what
+//! holds of it is in `specs/Index.antt`.
 #![tactic(auto)]
 
 mod change;

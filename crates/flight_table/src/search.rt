@@ -10,14 +10,14 @@ use cycle_spec::{Entry, EntryKind, Operand};
 use rv32_table::{Instr, Kind};
 
 /// An entry, counted from the oldest.
-pub(crate) fn entry_at(ring: &HeapCircularBuffer<Entry>, index: usize) -> Entry
+pub(crate) fn entry_at(ring: &HeapCircularBuffer<Entry>, index: usize) -> &Entry
     requires { index < length ring.now.items }
-    ensures value { slice_get ring.now.items index ≡ Some result }
-    ensures rest { drop index ring.now.items ≡ result ∷ drop (index + 1) ring.now.items }
-    ensures older { take (index + 1) ring.now.items ≡ take index ring.now.items ++ result ∷ [] }
+    ensures value { slice_get ring.now.items index ≡ Some result.now }
+    ensures rest { drop index ring.now.items ≡ result.now ∷ drop (index + 1) ring.now.items }
+    ensures older { take (index + 1) ring.now.items ≡ take index ring.now.items ++ result.now ∷ [] }
 {
     match ring.get(index) {
-        Some(entry) => *entry,
+        Some(entry) => entry,
         None => unreachable!(),
     }
 }
@@ -44,7 +44,7 @@ pub(crate) fn entry_of(ring: &HeapCircularBuffer<Entry>, seq: u64) -> Option<Ent
     for index in 0..ring.len() {
         let entry = entry_at(ring, index);
         if entry.seq == seq {
-            return Some(entry);
+            return Some(*entry);
         }
     }
     None
@@ -64,8 +64,8 @@ pub(crate) fn youngest_writer(
     while behind > 0 {
         behind -= 1;
         let entry = entry_at(ring, behind);
-        if may_write(dual_write, register, &entry) {
-            return Some(entry);
+        if may_write(dual_write, register, entry) {
+            return Some(*entry);
         }
     }
     None
@@ -118,14 +118,14 @@ pub(crate) fn ready_oldest(
             file,
             dual_write,
             index,
-            &entry,
+            entry,
             older_store,
             older_pending,
         ) {
-            return Some(entry);
+            return Some(*entry);
         }
-        older_store = older_store || is_store(&entry);
-        older_pending = older_pending || is_pending(&entry);
+        older_store = older_store || is_store(entry);
+        older_pending = older_pending || is_pending(entry);
     }
     None
 }
@@ -218,10 +218,10 @@ pub(crate) fn certain(ring: &HeapCircularBuffer<Entry>) -> Option<Entry>
     let mut youngest = None;
     for index in 0..ring.len() {
         let entry = entry_at(ring, index);
-        if is_undecided(&entry) {
-            youngest = Some(entry);
+        if is_undecided(entry) {
+            youngest = Some(*entry);
         }
-        if !is_safe(&entry) {
+        if !is_safe(entry) {
             return youngest;
         }
     }
@@ -246,7 +246,7 @@ fn is_held(ring: &HeapCircularBuffer<Entry>, id: u16) -> bool
     ensures { result ≡ list_any (flight.holds_id id) ring.now.items }
 {
     for index in 0..ring.len() {
-        if holds_id(&entry_at(ring, index), id) {
+        if holds_id(entry_at(ring, index), id) {
             return true;
         }
     }

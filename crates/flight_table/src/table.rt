@@ -29,6 +29,7 @@ pub struct FlightTable {
     next_seq: u64,
     /// The entries, the oldest first.
     ring: HeapCircularBuffer<Entry>,
+    /// Of each register, the number of the youngest entry that may write it.
     writers: Writers,
 }
 
@@ -87,7 +88,7 @@ impl FlightTable {
         requires { i < length self.now.entries }
         ensures { slice_get self.now.entries i ≡ Some result }
     {
-        entry_at(&self.ring, usize::from(i))
+        *entry_at(&self.ring, usize::from(i))
     }
 
     /// The ring that the entries lie in: the oldest is its first, and the window its capacity.
@@ -161,16 +162,10 @@ impl FlightTable {
         seq_of(ready_oldest(&self.ring, file, self.dual_write))
     }
 
-    /// The entry of a number executed, and retires with this line.
+    /// The entry of a number executed: when it retires, it does this.
     pub fn set_done(&mut self, seq: u64, write: Write, store: Option<Store>, next: u32)
-        ensures { (pc word : ℕ) → let line : Retire = record {
-          pc = pc;
-          word = word;
-          next = next;
-          write = write;
-          store = store;
-        } in
-            self.new ≡ record self.old {
+        ensures { (line : Retire) → line.write ≡ write → line.store ≡ store → line.next ≡ next
+            → self.new ≡ record self.old {
               entries = map (flight.with_line seq line) self.old.entries;
             } }
     {

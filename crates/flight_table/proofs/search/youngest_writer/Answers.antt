@@ -7,7 +7,7 @@ pub returns-then-may_write : goal.returns-then-may_write
 returns-then-may_write c =
     let es = c.args.ring.now.items in
     let behind = c.loop-behind.behind in
-    let e = c.entry_at-entry.result in
+    let e = c.entry_at-entry.result.now in
     let may : flight.may_write c.args.dual_write c.args.register e ≡ true = search rules in
     let back : behind ≡ behind - 1 + 1 = omega arith in
     let parted : take behind es ≡ take (behind - 1) es ++ e ∷ [] = ap (λ n. take n es) back ∙ c.entry_at-entry.ensures.older in
