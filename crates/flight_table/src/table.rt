@@ -2,10 +2,9 @@
 ghost use Rattle.std.specs.Prelude.{◌≡◌, ◌<◌, ◌≤◌, ◌+◌, ◌^◌, ◌++◌, ◌∷◌, [], ℕ, length, take, map, IfOk, slice_get, Some, None, true};
 ghost use Rattle.std.specs.Option.{option_map};
 ghost use Rattle.circular_buffer.specs.Buffer.{buffer};
-ghost use Rattle.inorder_machine.specs.declared.line.Retire.{Retire};
 ghost use Rattle.cycle_spec.specs.Flight as flight;
 ghost use Rattle.flight_table.specs.Change.{changed, keeps_response};
-ghost use Rattle.flight_table.specs.Table.{writer_of};
+ghost use Rattle.flight_table.specs.Table.{writer_of, line_with};
 
 use crate::change::{Change, change_all};
 use crate::entry::stop_by;
@@ -164,10 +163,9 @@ impl FlightTable {
 
     /// The entry of a number executed: when it retires, it does this.
     pub fn set_done(&mut self, seq: u64, write: Write, store: Option<Store>, next: u32)
-        ensures { (line : Retire) → line.write ≡ write → line.store ≡ store → line.next ≡ next
-            → self.new ≡ record self.old {
-              entries = map (flight.with_line seq line) self.old.entries;
-            } }
+        ensures { self.new ≡ record self.old {
+          entries = map (flight.with_line seq (line_with write store next)) self.old.entries;
+        } }
     {
         self.change(seq, Change::Done { write, store, next });
     }

@@ -50,9 +50,10 @@ fn a_register_is_what_the_youngest_writer_leaves(rt: HostRuntime) -> Result<(), 
 
 fn text_of_writers(alloc: Global) -> Result<String, Fail> {
     let mut text = String::new(alloc);
-    let mut fresh = FlightTable::new(alloc, 3, &PARAMS)?;
+    let mut fresh = FlightTable::new(alloc, 4, &PARAMS)?;
     write_x5(&mut fresh, &mut text)?;
-    let mut used = FlightTable::new(alloc, 3, &PARAMS)?;
+    let mut used = FlightTable::new(alloc, 4, &PARAMS)?;
+    pass(&mut used);
     pass(&mut used);
     pass(&mut used);
     pass(&mut used);
@@ -64,10 +65,10 @@ fn text_of_writers(alloc: Global) -> Result<String, Fail> {
 /// One instruction goes through the table.
 fn pass(table: &mut FlightTable)
     requires empty { table.old.entries ≡ [] }
-    requires window { table.old.window ≡ 3 }
+    requires window { table.old.window ≡ 4 }
     requires next { table.old.next_seq < 16 }
     ensures empty { table.new.entries ≡ [] }
-    ensures window { table.new.window ≡ 3 }
+    ensures window { table.new.window ≡ 4 }
     ensures next { table.new.next_seq ≡ table.old.next_seq + 1 }
 {
     table.dispatch(0, kind_of(SEVEN_TO_X5), SEVEN_TO_X5, 4, 0);
@@ -77,7 +78,7 @@ fn pass(table: &mut FlightTable)
 /// x5 behind one that wrote it and one that is to write it, and behind the first of them alone.
 fn write_x5(table: &mut FlightTable, text: &mut String) -> Result<(), Fail>
     requires empty { table.old.entries ≡ [] }
-    requires window { table.old.window ≡ 3 }
+    requires window { table.old.window ≡ 4 }
     requires next { table.old.next_seq < 32 }
 {
     let file = Registers::new();
