@@ -146,7 +146,6 @@ impl FlightTable {
     /// The register x`register` as the entry of a number reads it: what the youngest older entry
     /// that may write it leaves there, and without one what the register file has.
     pub fn operand(&self, seq: u64, register: u8, file: &Registers) -> Operand
-        requires { register < 32 }
         ensures { result ≡ flight.operand_at
             self.now.dual_write file.now self.now.entries seq register }
     {
@@ -267,20 +266,30 @@ impl FlightTable {
         free_id(&self.ring)
     }
 
-    /// The youngest entry that is older than the one of a number and may write a register.
+    /// The youngest entry that is older than the one of a number and may write a register. By the
+    /// index, where the youngest of all is older.
     fn older_writer(&self, seq: u64, register: u8) -> Option<Entry>
-        requires { register < 32 }
         ensures { result ≡ flight.youngest_writer self.now.dual_write
             (flight.older_than seq self.now.entries) register }
     {
+        // The index has x0 to x31.
+        if register >= 32 {
+            return self.writer_before(seq, register);
+        }
         match self.writers[usize::from(register)] {
             None => None,
             Some(youngest) if youngest < seq => entry_of(&self.ring, youngest),
-            Some(_) => {
-                let older = place_of(&self.ring, seq);
-                youngest_writer(&self.ring, self.dual_write, older, register)
-            }
+            Some(_) => self.writer_before(seq, register),
         }
+    }
+
+    /// The same, looking back from the entry of the number.
+    fn writer_before(&self, seq: u64, register: u8) -> Option<Entry>
+        ensures { result ≡ flight.youngest_writer self.now.dual_write
+            (flight.older_than seq self.now.entries) register }
+    {
+        let older = place_of(&self.ring, seq);
+        youngest_writer(&self.ring, self.dual_write, older, register)
     }
 
     /// A change that leaves the index as it is.
