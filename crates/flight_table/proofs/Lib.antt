@@ -1,0 +1,5 @@
+pub mod Scans
+pub mod Order
+pub mod Indexed
+pub mod Slots
+pub mod Kept

@@ -1,0 +1,13 @@
+use Rattle.std.proofs.Common.{sym, subst}
+use Rattle.circular_buffer.specs.Buffer.{Buffer}
+use Rattle.cycle_spec.specs.declared.entry.Entry.{Entry}
+use Rattle.flight_table.specs.Table.{Table}
+use Rattle.flight_table.specs.Index.{IsKept}
+use Rattle.flight_table.proofs.Kept.{none_kept, nones}
+use Rattle.flight_table.proofs.table.FlightTable.cut_all.Goals as goal
+
+pub invariant_of-self : goal.invariant_of-self
+invariant_of-self c =
+    let t : Table = record { dual_write = c.self.inside.dual_write; window = c.self.inside.ring.capacity; next_seq = c.self.inside.next_seq; entries = c.self.inside.ring.items } in
+    subst (λ (b : Buffer Entry). IsKept (record { dual_write = t.dual_write; window = b.capacity; next_seq = t.next_seq; entries = b.items }) _) (sym c.clear.ensures)
+    (none_kept t _ c.self.invariant.window (λ r l. nones 32 r l))

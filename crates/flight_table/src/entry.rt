@@ -1,0 +1,163 @@
+//! What an entry is, may write, and leaves in a register.
+ghost use Rattle.std.specs.Prelude.{◌≡◌, ◌<◌, ◌==◌, false};
+ghost use Rattle.std.specs.Option.{option_map_or};
+ghost use Rattle.rv32_table.specs.Instr.{target_of};
+ghost use Rattle.inorder_machine.specs.Execute as execute;
+ghost use Rattle.xif_session.specs.Facts as session;
+ghost use Rattle.cycle_spec.specs.Flight as flight;
+
+use cycle_spec::{Entry, EntryKind};
+use inorder_machine::{StopCause, Write};
+use rv32_table::{Instr, Kind, Row, rd_field};
+use xif_session::Response;
+
+pub(crate) fn is_accepted(response: Option<Response>) -> bool
+    ensures { result ≡ session.is_accepted response }
+{
+    match response {
+        Some(response) => response.accept,
+        None => false,
+    }
+}
+
+pub(crate) fn is_store(entry: &Entry) -> bool
+    ensures { result ≡ flight.is_store entry.now }
+{
+    match entry.kind {
+        EntryKind::Local(instr) => is_store_kind(instr.kind()),
+        EntryKind::Unknown | EntryKind::Nowhere => false,
+    }
+}
+
+fn is_store_kind(kind: Kind) -> bool
+    ensures { result ≡ flight.is_store_row kind }
+{
+    match kind {
+        Kind::Store => true,
+        _ => false,
+    }
+}
+
+pub(crate) fn is_pending(entry: &Entry) -> bool
+    ensures { result ≡ flight.is_pending entry.now }
+{
+    entry.response.is_some() && !entry.released
+}
+
+pub(crate) fn is_undecided(entry: &Entry) -> bool
+    ensures { result ≡ flight.is_undecided entry.now }
+{
+    is_accepted(entry.response) && !entry.released
+}
+
+pub(crate) fn is_safe(entry: &Entry) -> bool
+    ensures { result ≡ flight.is_safe entry.now }
+{
+    entry.stop.is_none() && is_safe_kind(entry)
+}
+
+fn is_safe_kind(entry: &Entry) -> bool
+    ensures { result ≡ flight.is_safe_kind (entry.now).kind entry.now }
+{
+    match entry.kind {
+        EntryKind::Local(instr) => is_safe_row(instr.kind(), entry.done),
+        EntryKind::Unknown => is_accepted(entry.response),
+        EntryKind::Nowhere => false,
+    }
+}
+
+fn is_safe_row(kind: Kind, done: bool) -> bool
+    ensures { result ≡ flight.is_safe_row kind done }
+{
+    match kind {
+        Kind::Load | Kind::Control => done,
+        Kind::Store => false,
+        Kind::Alu | Kind::Fence | Kind::Stop => true,
+    }
+}
+
+pub(crate) fn holds_id(entry: &Entry, id: u16) -> bool
+    ensures { result ≡ flight.holds_id id entry.now }
+{
+    match entry.kind {
+        EntryKind::Unknown => entry.id == id,
+        EntryKind::Local(_) | EntryKind::Nowhere => false,
+    }
+}
+
+/// Whether an entry may write a register. None writes x0.
+pub(crate) fn may_write(dual_write: bool, register: u8, entry: &Entry) -> bool
+    ensures { result ≡ flight.may_write dual_write register entry.now }
+{
+    register != 0 && may_write_kind(dual_write, register, entry)
+}
+
+fn may_write_kind(dual_write: bool, register: u8, entry: &Entry) -> bool
+    ensures { result ≡ flight.may_write_kind dual_write (entry.now).kind entry.now register }
+{
+    match entry.kind {
+        EntryKind::Local(instr) => is_target(&instr, register),
+        EntryKind::Unknown => {
+            may_write_word(dual_write, entry.response, rd_field(entry.word), register)
+        }
+        EntryKind::Nowhere => false,
+    }
+}
+
+fn is_target(instr: &Instr, register: u8) -> bool
+    ensures { result ≡ option_map_or (λ rd. rd == register) (target_of instr.now) false }
+{
+    match instr.target() {
+        Some(rd) => rd == register,
+        None => false,
+    }
+}
+
+fn may_write_word(dual_write: bool, response: Option<Response>, rd: u8, register: u8) -> bool
+    requires { rd < 32 }
+    ensures { result ≡ flight.may_write_word dual_write response rd register }
+{
+    match response {
+        None => register == rd || (dual_write && (rd % 2 == 0 && register == rd + 1)),
+        Some(response) => {
+            let flags = response.writeback.bits();
+            rd != 0
+                && ((flags & 1 == 1 && register == rd)
+                    || (flags >> 1 & 1 == 1 && register == rd + 1))
+        }
+    }
+}
+
+/// What a write leaves in a register that it names.
+pub(crate) fn value_in(write: Write, register: u8) -> u32
+    ensures { result ≡ flight.value_in write register }
+{
+    match write {
+        Write::None => 0,
+        Write::One { rd: _, value } => value,
+        Write::Pair { rd, low, high } => if register == rd { low } else { high },
+    }
+}
+
+/// What stops the machine from the dispatch on.
+pub(crate) fn stop_by(kind: EntryKind) -> Option<StopCause>
+    ensures { result ≡ flight.stop_by kind }
+{
+    match kind {
+        EntryKind::Local(instr) => match instr.kind() {
+            Kind::Stop => Some(cause_of(instr.row)),
+            _ => None,
+        },
+        EntryKind::Unknown => None,
+        EntryKind::Nowhere => Some(StopCause::FetchOutside),
+    }
+}
+
+fn cause_of(row: Row) -> StopCause
+    ensures { result ≡ execute.cause_of row }
+{
+    match row {
+        Row::Ebreak => StopCause::Ebreak,
+        _ => StopCause::Ecall,
+    }
+}

@@ -1,0 +1,254 @@
+//! What is found among the entries of a ring, the oldest first.
+ghost use Rattle.std.specs.Prelude.{◌≡◌, ◌<◌, ◌≤◌, ◌+◌, ◌^◌, ◌++◌, ◌∷◌, [], List, find, length, take, drop, slice_get, Some};
+ghost use Rattle.std.specs.List.{list_any};
+ghost use Rattle.cycle_spec.specs.Flight as flight;
+
+use crate::entry::{holds_id, is_pending, is_safe, is_store, is_undecided, may_write, value_in};
+use crate::registers::Registers;
+use circular_buffer::HeapCircularBuffer;
+use cycle_spec::{Entry, EntryKind, Operand};
+use rv32_table::{Instr, Kind};
+
+/// An entry, counted from the oldest.
+pub(crate) fn entry_at(ring: &HeapCircularBuffer<Entry>, index: usize) -> &Entry
+    requires { index < length ring.now.items }
+    ensures value { slice_get ring.now.items index ≡ Some result.now }
+    ensures rest { drop index ring.now.items ≡ result.now ∷ drop (index + 1) ring.now.items }
+    ensures older { take (index + 1) ring.now.items ≡ take index ring.now.items ++ result.now ∷ [] }
+{
+    match ring.get(index) {
+        Some(entry) => entry,
+        None => unreachable!(),
+    }
+}
+
+/// How many entries are older than the one of a number.
+pub(crate) fn place_of(ring: &HeapCircularBuffer<Entry>, seq: u64) -> usize
+    ensures place { result ≡ length (flight.older_than seq ring.now.items) }
+    ensures older { take result ring.now.items ≡ flight.older_than seq ring.now.items }
+    ensures bound { result ≤ length ring.now.items }
+{
+    let count = ring.len();
+    for index in 0..count {
+        if entry_at(ring, index).seq == seq {
+            return index;
+        }
+    }
+    count
+}
+
+/// The entry of a number.
+pub(crate) fn entry_of(ring: &HeapCircularBuffer<Entry>, seq: u64) -> Option<Entry>
+    ensures { result ≡ find (flight.has_seq seq) ring.now.items }
+{
+    for index in 0..ring.len() {
+        let entry = entry_at(ring, index);
+        if entry.seq == seq {
+            return Some(*entry);
+        }
+    }
+    None
+}
+
+/// The youngest of the `count` oldest entries that may write a register.
+pub(crate) fn youngest_writer(
+    ring: &HeapCircularBuffer<Entry>,
+    dual_write: bool,
+    count: usize,
+    register: u8,
+) -> Option<Entry>
+    requires { count ≤ length ring.now.items }
+    ensures { result ≡ flight.youngest_writer dual_write (take count ring.now.items) register }
+{
+    let mut behind = count;
+    while behind > 0 {
+        behind -= 1;
+        let entry = entry_at(ring, behind);
+        if may_write(dual_write, register, entry) {
+            return Some(*entry);
+        }
+    }
+    None
+}
+
+/// A register behind the `count` oldest entries.
+pub(crate) fn operand_behind(
+    ring: &HeapCircularBuffer<Entry>,
+    file: &Registers,
+    dual_write: bool,
+    count: usize,
+    register: u8,
+) -> Operand
+    requires { count ≤ length ring.now.items }
+    ensures { result
+        ≡ flight.operand_behind dual_write file.now (take count ring.now.items) register }
+{
+    operand_from(
+        file,
+        youngest_writer(ring, dual_write, count, register),
+        register,
+    )
+}
+
+/// A register behind the entry that writes it, or of the register file.
+pub(crate) fn operand_from(file: &Registers, writer: Option<Entry>, register: u8) -> Operand
+    ensures { result ≡ flight.operand_from file.now writer register }
+{
+    match writer {
+        None => Operand::Here(file.value(register)),
+        Some(entry) if entry.done => Operand::Here(value_in(entry.write, register)),
+        Some(_) => Operand::NotYet,
+    }
+}
+
+/// The oldest entry that may execute.
+pub(crate) fn ready_oldest(
+    ring: &HeapCircularBuffer<Entry>,
+    file: &Registers,
+    dual_write: bool,
+) -> Option<Entry>
+    ensures { result ≡ flight.ready_oldest dual_write file.now ring.now.items }
+{
+    let mut older_store = false;
+    let mut older_pending = false;
+    for index in 0..ring.len() {
+        let entry = entry_at(ring, index);
+        if may_execute(
+            ring,
+            file,
+            dual_write,
+            index,
+            entry,
+            older_store,
+            older_pending,
+        ) {
+            return Some(*entry);
+        }
+        older_store = older_store || is_store(entry);
+        older_pending = older_pending || is_pending(entry);
+    }
+    None
+}
+
+fn may_execute(
+    ring: &HeapCircularBuffer<Entry>,
+    file: &Registers,
+    dual_write: bool,
+    count: usize,
+    entry: &Entry,
+    older_store: bool,
+    older_pending: bool,
+) -> bool
+    requires count { count ≤ length ring.now.items }
+    requires store { older_store ≡ list_any flight.is_store (take count ring.now.items) }
+    requires pending { older_pending ≡ list_any flight.is_pending (take count ring.now.items) }
+    ensures { result
+        ≡ flight.may_execute dual_write file.now (take count ring.now.items) entry.now }
+{
+    if entry.done || entry.stop.is_some() {
+        return false;
+    }
+    match entry.kind {
+        EntryKind::Local(instr) => {
+            are_sources_here(ring, file, dual_write, count, &instr)
+                && !is_held_back(instr.kind(), older_store, older_pending)
+        }
+        EntryKind::Unknown | EntryKind::Nowhere => false,
+    }
+}
+
+fn is_held_back(kind: Kind, older_store: bool, older_pending: bool) -> bool
+    ensures { (older : List Entry) → older_store ≡ list_any flight.is_store older
+        → older_pending ≡ list_any flight.is_pending older
+        → result ≡ flight.is_held_back kind older }
+{
+    match kind {
+        Kind::Load => older_store,
+        Kind::Control => older_pending,
+        _ => false,
+    }
+}
+
+fn are_sources_here(
+    ring: &HeapCircularBuffer<Entry>,
+    file: &Registers,
+    dual_write: bool,
+    count: usize,
+    instr: &Instr,
+) -> bool
+    requires { count ≤ length ring.now.items }
+    ensures { result
+        ≡ flight.are_sources_here dual_write file.now (take count ring.now.items) instr.now }
+{
+    let (first, second) = instr.sources();
+    is_source_here(ring, file, dual_write, count, first)
+        && is_source_here(ring, file, dual_write, count, second)
+}
+
+fn is_source_here(
+    ring: &HeapCircularBuffer<Entry>,
+    file: &Registers,
+    dual_write: bool,
+    count: usize,
+    source: Option<u8>,
+) -> bool
+    requires { count ≤ length ring.now.items }
+    ensures { result ≡ flight.is_here
+        (flight.source_behind dual_write file.now (take count ring.now.items) source) }
+{
+    match source {
+        None => true,
+        Some(register) => is_here(operand_behind(ring, file, dual_write, count, register)),
+    }
+}
+
+fn is_here(operand: Operand) -> bool
+    ensures { result ≡ flight.is_here operand }
+{
+    match operand {
+        Operand::Here(_) => true,
+        Operand::NotYet => false,
+    }
+}
+
+/// The youngest use that may be released.
+pub(crate) fn certain(ring: &HeapCircularBuffer<Entry>) -> Option<Entry>
+    ensures { result ≡ flight.certain ring.now.items }
+{
+    let mut youngest = None;
+    for index in 0..ring.len() {
+        let entry = entry_at(ring, index);
+        if is_undecided(entry) {
+            youngest = Some(*entry);
+        }
+        if !is_safe(entry) {
+            return youngest;
+        }
+    }
+    youngest
+}
+
+/// The least id that no unknown word holds: of more ids than there are entries one is free.
+pub(crate) fn free_id(ring: &HeapCircularBuffer<Entry>) -> u16
+    requires { length ring.now.items < 2 ^ 15 }
+    ensures { result ≡ flight.free_id ring.now.items }
+{
+    let count = ring.len() as u16 + 1;
+    for id in 0..count {
+        if !is_held(ring, id) {
+            return id;
+        }
+    }
+    0
+}
+
+fn is_held(ring: &HeapCircularBuffer<Entry>, id: u16) -> bool
+    ensures { result ≡ list_any (flight.holds_id id) ring.now.items }
+{
+    for index in 0..ring.len() {
+        if holds_id(entry_at(ring, index), id) {
+            return true;
+        }
+    }
+    false
+}
