@@ -1,0 +1,6 @@
+pub mod Mapped
+pub mod Harts
+pub mod Keys
+pub mod Kept
+pub mod Latest
+pub mod New
