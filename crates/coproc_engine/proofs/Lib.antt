@@ -4,3 +4,4 @@ pub mod Keys
 pub mod Kept
 pub mod Latest
 pub mod New
+pub mod Copied

@@ -1,6 +1,6 @@
 -- Which keys there are, up to where cycles are counted, and (internal) what holds of the lists of
 -- an engine.
-use Rattle.std.specs.Prelude.{◌≡◌, ◌<◌, ◌≤◌, ◌+◌, ◌*◌, ◌^◌, ℕ, List, IfSome, IsSome, All, length, map, nat_eq}
+use Rattle.std.specs.Prelude.{◌≡◌, ◌<◌, ◌≤◌, ◌+◌, ◌*◌, ◌^◌, ℕ, List, [], ◌∷◌, IfSome, IsSome, All, length, map, nat_eq}
 use Rattle.std.specs.List.{IsDistinct}
 use Rattle.xif_base.specs.declared.params.Params.{Params}
 use Rattle.xif_base.specs.declared.params.Key.{Key}
@@ -13,6 +13,7 @@ use Rattle.coproc_config.specs.State.{IsStateOf}
 use Rattle.cycle_spec.specs.declared.turn.Transactions.{Transactions}
 use Rattle.cycle_spec.specs.declared.use_of.Use.{Use}
 use Rattle.cycle_spec.specs.State.{Engine}
+use Rattle.cycle_spec.specs.Engine.{has_operands, units_behind}
 
 -- a key of the interface
 pub record IsKey (p : Params) (key : Key) : Type 0 where
@@ -66,6 +67,13 @@ pub record AreUnits (p : Params) (set : List UnitTable) (units : List (List (Lis
     : Type 0 where
   pub harts : length units ≡ p.num_harts
   pub states : All (IsStateOf set) units
+
+-- the accumulators of each hart from one on, by those after its ready uses, ahead of the releases
+abbrev pub ahead_in_harts
+    : List UnitTable → (hart : ℕ) → List (List (List ℕ)) → List Use → List (List (List ℕ))
+ahead_in_harts set hart [] us = []
+ahead_in_harts set hart (state ∷ states) us =
+    units_behind set has_operands hart state us ∷ ahead_in_harts set (hart + 1) states us
 
 -- the uses, and their room
 pub record AreUses (p : Params) (set : List UnitTable) (us : List Use) (room : ℕ) : Type 0 where

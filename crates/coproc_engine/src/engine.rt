@@ -8,11 +8,12 @@ ghost use Rattle.coproc_config.specs.Check.{IsLawful as IsLawfulSet};
 ghost use Rattle.coproc_config.specs.Accept.{entry_at};
 ghost use Rattle.coproc_config.specs.State.{zeros, IsStateOf};
 ghost use Rattle.cycle_spec.specs.State.{new_engine};
-ghost use Rattle.cycle_spec.specs.Engine.{engine_drive, engine_clock, units_of};
+ghost use Rattle.cycle_spec.specs.Engine.{engine_drive, engine_clock, units_of, units_ahead};
 ghost use Rattle.cycle_spec.specs.Engine as spec;
 ghost use Rattle.cycle_spec.specs.Turns as turns;
 ghost use Rattle.coproc_engine.specs.Fits.{IsKey, CanCount, room_of};
 
+use crate::ahead::look_ahead;
 use crate::find::{
     goes_on, is_killed, is_within, issue_key, latest, offered_by, register_key, register_read_of,
     same_key, start_or, writeback_of,
@@ -39,17 +40,19 @@ pub struct Engine {
     /// The latest use of each key, in the order of their starts, with room for each key.
     uses: Vec<Use>,
     accepted: u64,
-    /// Hart by hart.
+    /// Hart by hart, after the ready uses.
     units: Vec<UnitState>,
+    /// Hart by hart, ahead of the releases.
+    ahead: Vec<UnitState>,
     issue_turns: Transactions,
     register_turns: Transactions,
     result_waiting: Option<u64>,
 }
 
 impl Model for Engine {
-    ghost use Rattle.std.specs.Prelude.{vec_capacity};
+    ghost use Rattle.std.specs.Prelude.{◌≡◌, vec_capacity};
     ghost use Rattle.cycle_spec.specs.State.{Engine as State};
-    ghost use Rattle.coproc_engine.specs.Fits.{IsSetUp, AreUnits, AreUses};
+    ghost use Rattle.coproc_engine.specs.Fits.{IsSetUp, AreUnits, AreUses, ahead_in_harts};
 
     ghost Value = { State };
 
@@ -68,7 +71,9 @@ impl Model for Engine {
 
     ghost invariant = { λ e. IsSetUp e.params e.set e.script
         × (AreUnits e.params e.set e.units.items
-        × AreUses e.params e.set e.uses.items (vec_capacity e.uses)) };
+        × (AreUses e.params e.set e.uses.items (vec_capacity e.uses)
+        × (AreUnits e.params e.set e.ahead.items
+        × (e.ahead.items ≡ ahead_in_harts e.set 0 e.units.items e.uses.items)))) };
 }
 
 impl Engine {
@@ -93,6 +98,7 @@ impl Engine {
             uses: Vec::with_capacity(alloc, key_count(params))?,
             accepted: 0,
             units: new_units(alloc, params.num_harts, set)?,
+            ahead: new_units(alloc, params.num_harts, set)?,
             issue_turns: NO_TRANSACTIONS,
             register_turns: NO_TRANSACTIONS,
             result_waiting: None,
@@ -135,6 +141,7 @@ impl Engine {
         decide_step(uses, cpu);
         end_step(uses, offered, cop, input);
         settle(&self.set, self.cycle, &mut self.units, uses);
+        look_ahead(&self.set, &self.units, uses, &mut self.ahead);
         self.accepted = accepted_after(self.accepted, cpu, cop);
         self.issue_turns = transactions_after(
             self.issue_turns,
@@ -156,6 +163,16 @@ impl Engine {
         ensures { result.now ≡ units_of self.now hart }
     {
         &self.units[usize::from(hart)]
+    }
+
+    /// The accumulators of a hart ahead of the releases: after its ready instructions, and after
+    /// those that have the registers that they read, in the order of their issue handshakes, up to
+    /// the first that hasn't. A kill takes back what the killed ones changed.
+    pub fn ahead(&self, hart: u8) -> &UnitState
+        requires { hart < self.now.params.num_harts }
+        ensures { result.now ≡ units_ahead self.now hart }
+    {
+        &self.ahead[usize::from(hart)]
     }
 
     // ---- the issue channel

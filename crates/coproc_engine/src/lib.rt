@@ -9,6 +9,7 @@
 //! `specs/Fits.antt` says which keys a core may offer, and what an engine keeps of its lists.
 #![tactic(auto)]
 
+mod ahead;
 mod engine;
 mod find;
 mod settle;

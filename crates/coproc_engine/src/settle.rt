@@ -70,7 +70,7 @@ fn ready_now(set: &Set, cycle: u64, state: &mut UnitState, entry: Use) -> Use
 }
 
 /// Applies a use: returns its result, and changes the accumulators.
-fn apply(set: &Set, state: &mut UnitState, entry: &Use) -> u64
+pub fn apply(set: &Set, state: &mut UnitState, entry: &Use) -> u64
     requires lawful { IsLawful set.now }
     requires state { IsStateOf set.now state.old }
     requires entry { HasEntry set.now entry.now }
@@ -85,7 +85,7 @@ fn apply(set: &Set, state: &mut UnitState, entry: &Use) -> u64
 }
 
 /// Whether it is the turn of a use: it is an accepted one of the hart, neither killed nor ready.
-fn is_next(hart: u8, entry: &Use) -> bool
+pub fn is_next(hart: u8, entry: &Use) -> bool
     ensures { result ≡ spec.is_next hart entry.now }
 {
     entry.key.hart == hart
@@ -101,7 +101,8 @@ fn is_complete(entry: &Use) -> bool
     is_released(entry.decision) && has_operands(entry)
 }
 
-fn has_operands(entry: &Use) -> bool
+/// Whether the registers that it reads are here.
+pub fn has_operands(entry: &Use) -> bool
     ensures { result ≡ spec.has_operands entry.now }
 {
     entry.given || register_read_of(entry.hit) == 0
