@@ -5,3 +5,4 @@ pub mod Kept
 pub mod Latest
 pub mod New
 pub mod Copied
+pub mod Counted

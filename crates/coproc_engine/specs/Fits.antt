@@ -1,5 +1,4 @@
--- Which keys there are, up to where cycles are counted, and (internal) what holds of the lists of
--- an engine.
+-- Which keys there are, and (internal) what holds of the counts and lists of an engine.
 use Rattle.std.specs.Prelude.{◌≡◌, ◌<◌, ◌≤◌, ◌+◌, ◌*◌, ◌^◌, ℕ, List, [], ◌∷◌, IfSome, IsSome, All, length, map, nat_eq}
 use Rattle.std.specs.List.{IsDistinct}
 use Rattle.xif_base.specs.declared.params.Params.{Params}
@@ -12,7 +11,6 @@ use Rattle.coproc_config.specs.Accept.{entry_at}
 use Rattle.coproc_config.specs.State.{IsStateOf}
 use Rattle.cycle_spec.specs.declared.turn.Transactions.{Transactions}
 use Rattle.cycle_spec.specs.declared.use_of.Use.{Use}
-use Rattle.cycle_spec.specs.State.{Engine}
 use Rattle.cycle_spec.specs.Engine.{has_operands, units_behind}
 
 -- a key of the interface
@@ -20,19 +18,23 @@ pub record IsKey (p : Params) (key : Key) : Type 0 where
   pub hart : key.hart < p.num_harts
   pub id : key.id < 2 ^ p.id_width
 
+-- ---- internal
+
 -- a channel's transactions can be counted on
 pub record CanCountOn (ts : Transactions) : Type 0 where
   pub begun : ts.begun < 2 ^ 63
   pub age : IfSome ts.waiting (λ t. t.turn.age < 2 ^ 63)
 
--- one more cycle can be counted
-pub record CanCount (e : Engine) : Type 0 where
-  pub cycle : e.cycle < 2 ^ 63
-  pub accepted : e.accepted < 2 ^ 63
-  pub issue : CanCountOn e.issue_turns
-  pub register : CanCountOn e.register_turns
+-- no more of them began, and none is older, than there were cycles
+pub record AreCountedBy (cycle : ℕ) (ts : Transactions) : Type 0 where
+  pub begun : ts.begun ≤ cycle
+  pub age : IfSome ts.waiting (λ t. t.turn.age ≤ cycle)
 
--- ---- internal
+-- no count is above that of the cycles
+pub record IsCounted (cycle accepted : ℕ) (issue register : Transactions) : Type 0 where
+  pub uses : accepted ≤ cycle
+  pub issues : AreCountedBy cycle issue
+  pub registers : AreCountedBy cycle register
 
 -- the entry that takes a use is in the set
 abbrev pub HasEntry : List UnitTable → Use → Type 0

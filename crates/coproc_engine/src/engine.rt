@@ -11,7 +11,7 @@ ghost use Rattle.cycle_spec.specs.State.{new_engine};
 ghost use Rattle.cycle_spec.specs.Engine.{engine_drive, engine_clock, units_of, units_ahead};
 ghost use Rattle.cycle_spec.specs.Engine as spec;
 ghost use Rattle.cycle_spec.specs.Turns as turns;
-ghost use Rattle.coproc_engine.specs.Fits.{IsKey, CanCount, room_of};
+ghost use Rattle.coproc_engine.specs.Fits.{IsKey, room_of};
 
 use crate::ahead::look_ahead;
 use crate::find::{
@@ -52,7 +52,7 @@ pub struct Engine {
 impl Model for Engine {
     ghost use Rattle.std.specs.Prelude.{◌≡◌, vec_capacity};
     ghost use Rattle.cycle_spec.specs.State.{Engine as State};
-    ghost use Rattle.coproc_engine.specs.Fits.{IsSetUp, AreUnits, AreUses, ahead_in_harts};
+    ghost use Rattle.coproc_engine.specs.Fits.{IsSetUp, AreUnits, AreUses, IsCounted, ahead_in_harts};
 
     ghost Value = { State };
 
@@ -73,7 +73,8 @@ impl Model for Engine {
         × (AreUnits e.params e.set e.units.items
         × (AreUses e.params e.set e.uses.items (vec_capacity e.uses)
         × (AreUnits e.params e.set e.ahead.items
-        × (e.ahead.items ≡ ahead_in_harts e.set 0 e.units.items e.uses.items)))) };
+        × ((e.ahead.items ≡ ahead_in_harts e.set 0 e.units.items e.uses.items)
+        × IsCounted e.cycle e.accepted e.issue_turns e.register_turns)))) };
 }
 
 impl Engine {
@@ -126,7 +127,7 @@ impl Engine {
     /// The end of a cycle.
     pub fn clock(&mut self, cpu: &CpuOut, cop: &CopOut, input: &CpuIn)
         requires key { IsTrue cpu.now.issue_valid → IsKey self.old.params (spec.issue_key cpu.now) }
-        requires counts { CanCount self.old }
+        requires count { self.old.cycle < 2 ^ 63 }
         ensures { self.new ≡ engine_clock self.old cpu.now cop.now input.now }
     {
         let starts = self.starts(cpu);

@@ -2,6 +2,7 @@ use Rattle.std.proofs.Common.{◌∙◌, ap, rules, ◌≡◌, ◌≤◌, [], su
 use Rattle.coproc_config.specs.Check.{IsLawful as IsLawfulSet}
 use Rattle.xif_drive.specs.Scripts.{IsLawful as IsLawfulScript}
 use Rattle.coproc_engine.specs.Fits.{AreUnits, AreUses, ahead_in_harts, room_of}
+use Rattle.coproc_engine.proofs.Counted.{new_counted}
 use Rattle.coproc_engine.proofs.New.{no_uses, new_units, new_ahead}
 use Rattle.coproc_engine.proofs.engine.Engine.new.Goals as goal
 
@@ -25,9 +26,12 @@ invariant_of-result c =
           subst (λ us. AreUses params c.in_ok-copy.field-0 us (vec_capacity c.in_ok-with_capacity.field-0)) (sym none) (no_uses params c.in_ok-copy.field-0 _ room),
           (
             subst (λ s. AreUnits params s c.in_ok-new_units-2.field-0.items) (sym set) ahead,
-            c.in_ok-new_units-2.ensures.zeros ∙ sym c.in_ok-new_units.ensures.zeros
-                ∙ new_ahead c.in_ok-copy.field-0 0 c.in_ok-new_units.field-0.items
-                ∙ ap (λ us. ahead_in_harts c.in_ok-copy.field-0 0 c.in_ok-new_units.field-0.items us) (sym none),
+            (
+              c.in_ok-new_units-2.ensures.zeros ∙ sym c.in_ok-new_units.ensures.zeros
+                  ∙ new_ahead c.in_ok-copy.field-0 0 c.in_ok-new_units.field-0.items
+                  ∙ ap (λ us. ahead_in_harts c.in_ok-copy.field-0 0 c.in_ok-new_units.field-0.items us) (sym none),
+              new_counted,
+            ),
           ),
         ),
       ),
