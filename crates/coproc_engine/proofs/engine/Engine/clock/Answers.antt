@@ -1,0 +1,82 @@
+use Rattle.std.proofs.Common.{◌+◌, rules, arith, ap₂, ◌≡◌, ◌<◌, ◌≤◌, length, subst, sym, ◌∙◌, filter, not, vec_capacity, IfSome, IsSome, IsTrue, All}
+use Rattle.coproc_config.specs.Accept.{entry_at}
+use Rattle.coproc_config.specs.State.{IsStateOf}
+use Rattle.std.proofs.lemmas.List.{with_items_is}
+use Rattle.std.specs.Vec.{with_items}
+use Rattle.cycle_spec.specs.State.{Engine}
+use Rattle.cycle_spec.specs.Engine as spec
+use Rattle.coproc_engine.specs.Fits.{IsKey, AreCountedBy, IsCounted, AreKeys, AreUnits, AreUses, HaveEntries, ahead_in_harts, keys_of, room_of}
+use Rattle.coproc_engine.proofs.Counted.{after_counted, accepted_counted}
+use Rattle.coproc_engine.proofs.Keys.{room-left}
+use Rattle.coproc_engine.proofs.Kept.{offered-valid, ended-entries, settled-keys}
+use Rattle.coproc_engine.proofs.engine.Engine.clock.Goals as goal
+
+pub start_step-requires : goal.start_step-requires
+start_step-requires c = record {
+  room = λ started.
+      let valid : IsTrue c.args.cpu.now.issue_valid = offered-valid c.args.self.now c.args.cpu.now c.starts-starts.result c.starts-starts.ensures started in
+      let key : IsKey c.self.inside.params (spec.issue_key c.args.cpu.now) = subst (λ (e : Engine). IsKey e.params (spec.issue_key c.args.cpu.now)) (sym c.self.view_is) (c.requires.key valid) in
+      let fits : room_of c.self.inside.params ≤ vec_capacity c.self.inside.uses = c.self.invariant.1.1.0.fits in
+      let left : length (filter (λ other. not (spec.has_key (spec.issue_key c.args.cpu.now) other)) c.self.inside.uses.items) < room_of c.self.inside.params = room-left c.self.inside.params (spec.issue_key c.args.cpu.now) c.self.inside.uses.items c.self.invariant.1.1.0.keys key in
+      omega arith;
+}
+
+pub settle-requires-clause-entries : goal.settle-requires-clause-entries
+settle-requires-clause-entries c =
+    let e : Engine = c.args.self.now in
+    let cpu = c.args.cpu.now in
+    let same : c.end_step.new.uses ≡ spec.ended_uses e cpu c.args.cop.now c.args.input.now = search rules in
+    let hit : IfSome (spec.offered_hit e cpu) (λ h. IsSome (entry_at e.set h)) = subst (λ found. IfSome found (λ h. IsSome (entry_at e.set h))) c.offered_hit-hit.ensures.hit c.offered_hit-hit.ensures.entry in
+    let entries : HaveEntries e.set e.uses = subst (λ (x : Engine). HaveEntries x.set x.uses) c.self.view_is c.self.invariant.1.1.0.entries in
+    subst (λ us. HaveEntries c.self.inside.set us) (sym same)
+    (subst (λ (x : Engine). HaveEntries x.set (spec.ended_uses e cpu c.args.cop.now c.args.input.now)) (sym c.self.view_is)
+    (ended-entries e cpu c.args.cop.now c.args.input.now hit entries))
+
+pub invariant_of-self : goal.invariant_of-self
+invariant_of-self c =
+    let e : Engine = c.args.self.now in
+    let cpu = c.args.cpu.now in
+    let x = c.self.inside in
+    let hit : IfSome (spec.offered_hit e cpu) (λ h. IsSome (entry_at e.set h)) = subst (λ found. IfSome found (λ h. IsSome (entry_at e.set h))) c.offered_hit-hit.ensures.hit c.offered_hit-hit.ensures.entry in
+    let keys : AreKeys e.params (keys_of e.uses) = subst (λ (x : Engine). AreKeys x.params (keys_of x.uses)) c.self.view_is c.self.invariant.1.1.0.keys in
+    let same : c.settle.new.uses ≡ spec.settled_uses e cpu c.args.cop.now c.args.input.now = search rules in
+    let settled : AreKeys x.params (keys_of c.settle.new.uses) =
+    subst (λ us. AreKeys x.params (keys_of us)) (sym same)
+    (subst (λ (y : Engine). AreKeys y.params (keys_of (spec.settled_uses e cpu c.args.cop.now c.args.input.now))) (sym c.self.view_is)
+    (settled-keys e cpu c.args.cop.now c.args.input.now keys c.requires.key hit)) in
+    let fits : room_of x.params ≤ vec_capacity c.start_step.new.uses = omega (arith, c.self.invariant.1.1.0.fits, c.start_step.ensures.capacity) in
+    let units : length c.settle.new.units ≡ x.units.len = search rules in
+    let uses : length c.settle.new.uses ≡ c.start_step.new.uses.len = search rules in
+    let states : All (IsStateOf x.set) c.settle.new.units = c.settle.ensures.fits in
+    let entries : HaveEntries x.set c.settle.new.uses = c.settle.ensures.kept in
+    let units_are : (with_items x.units c.settle.new.units).items ≡ c.settle.new.units = with_items_is x.units c.settle.new.units units in
+    let uses_are : (with_items c.start_step.new.uses c.settle.new.uses).items ≡ c.settle.new.uses = with_items_is c.start_step.new.uses c.settle.new.uses uses in
+    let ahead : length c.look_ahead.new.ahead ≡ x.ahead.len = search rules in
+    let ahead_are : (with_items x.ahead c.look_ahead.new.ahead).items ≡ c.look_ahead.new.ahead = with_items_is x.ahead c.look_ahead.new.ahead ahead in
+    let looked : c.look_ahead.new.ahead ≡ ahead_in_harts x.set 0 c.settle.new.units c.settle.new.uses = search rules in
+    let counts : IsCounted x.cycle x.accepted x.issue_turns x.register_turns = c.self.invariant.1.1.1.1.1 in
+    let counted : c.accepted_after-self-inside.result ≤ x.cycle + 1 =
+    subst (λ n. n ≤ x.cycle + 1) (sym c.accepted_after-self-inside.ensures) (accepted_counted x.cycle x.accepted cpu c.args.cop.now counts.uses) in
+    let issues : AreCountedBy (x.cycle + 1) c.transactions_after-self-inside.result =
+    subst (AreCountedBy (x.cycle + 1)) (sym c.transactions_after-self-inside.ensures) (after_counted x.cycle x.issue_turns c.owner_if.result c.args.cop.now.issue_ready counts.issues) in
+    let registers : AreCountedBy (x.cycle + 1) c.transactions_after-self-inside-2.result =
+    subst (AreCountedBy (x.cycle + 1)) (sym c.transactions_after-self-inside-2.ensures) (after_counted x.cycle x.register_turns c.owner_if-2.result c.args.cop.now.register_ready counts.registers) in
+    let fit : All (IsStateOf x.set) c.look_ahead.new.ahead = c.look_ahead.ensures.fits in (
+      c.self.invariant.0,
+      (
+        subst (λ states. AreUnits x.params x.set states) (sym units_are)
+            (record { harts = units ∙ x.units.ok.0 ∙ c.self.invariant.1.0.harts; states = states }),
+        (
+          subst (λ us. AreUses x.params x.set us (vec_capacity c.start_step.new.uses)) (sym uses_are)
+              (record { entries = entries; keys = settled; fits = fits }),
+          (
+            subst (λ states. AreUnits x.params x.set states) (sym ahead_are)
+                (record { harts = ahead ∙ x.ahead.ok.0 ∙ c.self.invariant.1.1.1.0.harts; states = fit }),
+            (
+              ahead_are ∙ looked ∙ sym (ap₂ (λ states us. ahead_in_harts x.set 0 states us) units_are uses_are),
+              record { uses = counted; issues = issues; registers = registers },
+            ),
+          ),
+        ),
+      ),
+    )
