@@ -124,7 +124,10 @@ impl Engine {
     pub fn clock(&mut self, cpu: &CpuOut, cop: &CopOut, input: &CpuIn)
         requires key { IsTrue cpu.now.issue_valid → IsKey self.old.params (spec.issue_key cpu.now) }
         requires count { self.old.cycle < 2 ^ 63 }
-        ensures { self.new ≡ engine_clock self.old cpu.now cop.now input.now }
+        ensures after { self.new ≡ engine_clock self.old cpu.now cop.now input.now }
+
+        // No more uses are kept than there are keys.
+        ensures few { length self.new.uses ≤ room_of self.old.params }
     {
         let starts = self.starts(cpu);
         let issue_start = self.issue_start(starts, cpu);

@@ -1,14 +1,15 @@
-use Rattle.std.proofs.Common.{◌+◌, ap, rules, arith, ap₂, ◌≡◌, ◌<◌, ◌≤◌, length, subst, sym, ◌∙◌, filter, not, vec_capacity, IsTrue, All}
+use Rattle.std.proofs.Common.{List, ◌+◌, ap, rules, arith, ap₂, ◌≡◌, ◌<◌, ◌≤◌, length, subst, sym, ◌∙◌, filter, not, vec_capacity, IsTrue, All}
 use Rattle.coproc_config.specs.Accept.{hit_of}
 use Rattle.coproc_config.specs.State.{IsStateOf}
-use Rattle.std.proofs.lemmas.List.{with_items_is}
+use Rattle.std.proofs.lemmas.List.{with_items_is, length-map}
 use Rattle.std.specs.Vec.{with_items}
+use Rattle.cycle_spec.specs.declared.use_of.Use.{Use}
 use Rattle.cycle_spec.specs.State.{Engine}
 use Rattle.cycle_spec.specs.Engine as spec
 use Rattle.cycle_spec.specs.Turns.{transactions_after}
 use Rattle.coproc_engine.specs.Fits.{IsKey, AreCountedBy, IsCounted, AreKeys, AreUnits, AreUses, HaveEntries, ahead_in_harts, keys_of, room_of}
 use Rattle.coproc_engine.proofs.Counted.{after_counted, accepted_counted}
-use Rattle.coproc_engine.proofs.Keys.{room-left}
+use Rattle.coproc_engine.proofs.Keys.{room-left, fit}
 use Rattle.coproc_engine.proofs.Kept.{offered-valid, started-entries, ended-entries, settled-keys}
 use Rattle.coproc_engine.proofs.engine.Engine.clock.Goals as goal
 
@@ -112,8 +113,8 @@ invariant_of-self c =
       ),
     )
 
-pub returns : goal.returns
-returns c =
+pub returns-clause-after : goal.returns-clause-after
+returns-clause-after c =
     let e : Engine = c.args.self.now in
     let cpu = c.args.cpu.now in
     let x = c.self.inside in
@@ -171,3 +172,11 @@ returns c =
       register_turns = registers i;
       result_waiting = waiting i;
     }
+
+pub returns-clause-few : goal.returns-clause-few
+returns-clause-few c =
+    let x = c.self.inside in
+    let us : List Use = (with_items c.start_step.new.uses c.settle.new.uses).items in
+    let few : length us ≤ room_of x.params =
+    subst (λ n. n ≤ room_of x.params) (length-map us (λ (u : Use). u.key)) (fit x.params (keys_of us) (invariant_of-self c).1.1.0.keys) in
+    subst (λ (y : Engine). length us ≤ room_of y.params) c.self.view_is few
