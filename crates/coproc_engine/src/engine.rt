@@ -1,6 +1,5 @@
 //! The engine: what the coprocessors drive in a cycle, and their state after it.
-ghost use Rattle.std.specs.Prelude.{◌≡◌, ◌&&◌, ◌<◌, ◌≤◌, ◌*◌, ◌^◌, IfOk, IfSome, IsSome, IsTrue, Option, length, replicate, All, vec_len};
-ghost use Rattle.std.specs.Option.{option_map};
+ghost use Rattle.std.specs.Prelude.{◌≡◌, ◌&&◌, ◌<◌, ◌≤◌, ◌^◌, IfOk, IsTrue, Option, length, replicate, All};
 ghost use Rattle.xif_base.specs.Params.{IsInRange};
 ghost use Rattle.xif_base.specs.declared.params.Key.{Key};
 ghost use Rattle.xif_drive.specs.Scripts.{IsLawful as IsLawfulScript};
