@@ -166,7 +166,8 @@ impl Engine {
     /// The accumulators of a hart after its ready instructions.
     pub fn state(&self, hart: u8) -> &UnitState
         requires { hart < self.now.params.num_harts }
-        ensures { result.now ≡ units_of self.now hart }
+        ensures value { result.now ≡ units_of self.now hart }
+        ensures fits { IsStateOf self.now.set result.now }
     {
         &self.units[usize::from(hart)]
     }
@@ -176,7 +177,8 @@ impl Engine {
     /// the first that hasn't. A kill takes back what the killed ones changed.
     pub fn ahead(&self, hart: u8) -> &UnitState
         requires { hart < self.now.params.num_harts }
-        ensures { result.now ≡ units_ahead self.now hart }
+        ensures value { result.now ≡ units_ahead self.now hart }
+        ensures fits { IsStateOf self.now.set result.now }
     {
         &self.ahead[usize::from(hart)]
     }
