@@ -1,19 +1,12 @@
 -- No count is above that of the cycles.
-use Rattle.std.proofs.Common.{◌<◌, ◌≤◌, ◌+◌, ◌^◌, ◌==◌, ◌&&◌, if◌then◌else◌, ℕ, Bool, true, false, Option, Some, None, IfSome, arith}
+use Rattle.std.proofs.Common.{◌≤◌, ◌+◌, ◌==◌, ◌&&◌, if◌then◌else◌, ℕ, Bool, true, false, Option, Some, None, IfSome, arith}
 use Rattle.xif_signals.specs.declared.bus.CpuOut.{CpuOut}
 use Rattle.xif_signals.specs.declared.bus.CopOut.{CopOut}
 use Rattle.cycle_spec.specs.declared.turn.Transaction.{Transaction}
 use Rattle.cycle_spec.specs.declared.turn.Transactions.{Transactions}
 use Rattle.cycle_spec.specs.Turns.{turn_in, begun_in, aged, transactions_after, no_transactions}
 use Rattle.cycle_spec.specs.Engine.{accepted_after}
-use Rattle.coproc_engine.specs.Fits.{CanCountOn, AreCountedBy, IsCounted}
-
-pub can_count : (cycle : ℕ) (ts : Transactions) → cycle < 2 ^ 63 → AreCountedBy cycle ts → CanCountOn ts
-can_count cycle ts l c = record { begun = omega (arith, c.begun); age = go ts.waiting c.age }
-  where
-    go : (w : Option Transaction) → IfSome w (λ t. t.turn.age ≤ cycle) → IfSome w (λ t. t.turn.age < 2 ^ 63)
-    go None h = tt
-    go (Some t) h = omega arith
+use Rattle.coproc_engine.specs.Fits.{AreCountedBy, IsCounted}
 
 none_counted : AreCountedBy 0 no_transactions
 none_counted = record { begun = omega arith; age = tt }

@@ -3,7 +3,9 @@ use Rattle.std.proofs.Common.{if◌then◌else◌, ◌≡◌, ◌+◌, ◌∷◌
 use Rattle.std.proofs.lemmas.List.Elements.{All-map, All-weaker, All-filter, All-push}
 use Rattle.coproc_config.specs.declared.accept.Hit.{Hit}
 use Rattle.coproc_config.specs.Set.{UnitTable}
-use Rattle.coproc_config.specs.Accept.{entry_at}
+use Rattle.coproc_config.specs.Accept.{entry_at, HasFlagsOf}
+use Rattle.coproc_config.specs.declared.operation.Entry.{Entry}
+use Rattle.xif_base.specs.declared.params.Params.{Params}
 use Rattle.xif_signals.specs.declared.bus.CpuOut.{CpuOut}
 use Rattle.xif_signals.specs.declared.bus.CopOut.{CopOut}
 use Rattle.xif_signals.specs.declared.bus.CpuIn.{CpuIn}
@@ -36,16 +38,19 @@ by_map set f us h k = record { keys = keys-map f us h; entries = entries-map set
 
 -- ---- the steps
 
-answered : (set : List UnitTable) (start : ℕ) (hit : Option Hit) (order : ℕ) (cpu : CpuOut) (cop : CopOut) (us : List Use) → IfSome hit (λ h. IsSome (entry_at set h)) → Keeps set us (spec.answer_step start hit order cpu cop us)
-answered set start hit order cpu cop us h = go (cpu.issue_valid && cop.issue_ready)
+answered-keys : (start : ℕ) (hit : Option Hit) (order : ℕ) (cpu : CpuOut) (cop : CopOut) (us : List Use) → keys_of (spec.answer_step start hit order cpu cop us) ≡ keys_of us
+answered-keys start hit order cpu cop us = go (cpu.issue_valid && cop.issue_ready)
+  where
+    go : (t : Bool) → keys_of (if t then map (spec.with_answer start hit order) us else us) ≡ keys_of us
+    go true = keys-map (spec.with_answer start hit order) us (λ u. refl)
+    go false = refl
+
+pub answer-entries : (set : List UnitTable) (start : ℕ) (hit : Option Hit) (order : ℕ) (us : List Use) → IfSome hit (λ h. IsSome (entry_at set h)) → HaveEntries set us → HaveEntries set (map (spec.with_answer start hit order) us)
+answer-entries set start hit order us h = entries-map set (spec.with_answer start hit order) us (λ u. one u (spec.has_start start u))
   where
     one : (u : Use) → (t : Bool) → HasEntry set u → IfSome (if t then hit else u.hit) (λ h. IsSome (entry_at set h))
     one u true a = h
     one u false a = a
-
-    go : (t : Bool) → Keeps set us (if t then map (spec.with_answer start hit order) us else us)
-    go true = by_map set (spec.with_answer start hit order) us (λ u. refl) (λ u. one u (spec.has_start start u))
-    go false = same set us
 
 given : (set : List UnitTable) (cpu : CpuOut) (cop : CopOut) (us : List Use) → Keeps set us (spec.given_step cpu cop us)
 given set cpu cop us = go (cpu.register_valid && cop.register_ready) (spec.latest (spec.register_key cpu) us)
@@ -78,7 +83,7 @@ ended set offered cop input us = go (cop.result_valid && input.result_ready) off
 then_also : (set : List UnitTable) (us now next : List Use) → Keeps set us now → Keeps set now next → Keeps set us next
 then_also set us now next a b = record { keys = b.keys ∙ a.keys; entries = λ e. b.entries (a.entries e) }
 
-started-entries : (set : List UnitTable) (e : Engine) (cpu : CpuOut) → HaveEntries set e.uses → HaveEntries set (spec.started_uses e cpu)
+pub started-entries : (set : List UnitTable) (e : Engine) (cpu : CpuOut) → HaveEntries set e.uses → HaveEntries set (spec.started_uses e cpu)
 started-entries set e cpu a = go (spec.starts e cpu)
   where
     u : Use
@@ -88,22 +93,22 @@ started-entries set e cpu a = go (spec.starts e cpu)
     go true = All-push (HasEntry set) (filter (λ other. not (spec.has_key u.key other)) e.uses) u (All-filter (λ other. not (spec.has_key u.key other)) (HasEntry set) e.uses a) tt
     go false = a
 
-rest : (e : Engine) (cpu : CpuOut) (cop : CopOut) (input : CpuIn) → IfSome (spec.offered_hit e cpu) (λ h. IsSome (entry_at e.set h)) → Keeps e.set (spec.started_uses e cpu) (spec.ended_uses e cpu cop input)
-rest e cpu cop input h =
+rest : (e : Engine) (cpu : CpuOut) (cop : CopOut) (input : CpuIn) → Keeps e.set (spec.answered_uses e cpu cop) (spec.ended_uses e cpu cop input)
+rest e cpu cop input =
     then_also e.set _ (spec.decided_uses e cpu cop) _
     (then_also e.set _ (spec.given_uses e cpu cop) _
-    (then_also e.set _ (spec.answered_uses e cpu cop) _
-    (answered e.set (spec.issue_start e cpu) (spec.offered_hit e cpu) e.accepted cpu cop (spec.started_uses e cpu) h)
-    (given e.set cpu cop (spec.answered_uses e cpu cop)))
+    (given e.set cpu cop (spec.answered_uses e cpu cop))
     (decided e.set cpu (spec.given_uses e cpu cop)))
     (ended e.set (spec.offered_use e) cop input (spec.decided_uses e cpu cop))
 
 -- up to the result handshake
-ended-keys : (e : Engine) (cpu : CpuOut) (cop : CopOut) (input : CpuIn) → IfSome (spec.offered_hit e cpu) (λ h. IsSome (entry_at e.set h)) → keys_of (spec.ended_uses e cpu cop input) ≡ keys_of (spec.started_uses e cpu)
-ended-keys e cpu cop input h = (rest e cpu cop input h).keys
+ended-keys : (e : Engine) (cpu : CpuOut) (cop : CopOut) (input : CpuIn) → keys_of (spec.ended_uses e cpu cop input) ≡ keys_of (spec.started_uses e cpu)
+ended-keys e cpu cop input =
+    (rest e cpu cop input).keys
+    ∙ answered-keys (spec.issue_start e cpu) (spec.offered_hit e cpu) e.accepted cpu cop (spec.started_uses e cpu)
 
-pub ended-entries : (e : Engine) (cpu : CpuOut) (cop : CopOut) (input : CpuIn) → IfSome (spec.offered_hit e cpu) (λ h. IsSome (entry_at e.set h)) → HaveEntries e.set e.uses → HaveEntries e.set (spec.ended_uses e cpu cop input)
-ended-entries e cpu cop input h a = (rest e cpu cop input h).entries (started-entries e.set e cpu a)
+pub ended-entries : (e : Engine) (cpu : CpuOut) (cop : CopOut) (input : CpuIn) → HaveEntries e.set (spec.answered_uses e cpu cop) → HaveEntries e.set (spec.ended_uses e cpu cop input)
+ended-entries e cpu cop input a = (rest e cpu cop input).entries a
 
 -- ---- the uses that are ready
 
@@ -144,8 +149,18 @@ started-keys e cpu k i = go (spec.starts e cpu) refl
     go true h = keys-start e.params (spec.new_use (spec.issue_key cpu) e.cycle cpu.issue_instr) e.uses k (i (offered-valid e cpu true (sym h) refl))
     go false h = k
 
-pub settled-keys : (e : Engine) (cpu : CpuOut) (cop : CopOut) (input : CpuIn) → AreKeys e.params (keys_of e.uses) → (IsTrue cpu.issue_valid → IsKey e.params (spec.issue_key cpu)) → IfSome (spec.offered_hit e cpu) (λ h. IsSome (entry_at e.set h)) → AreKeys e.params (keys_of (spec.settled_uses e cpu cop input))
-settled-keys e cpu cop input k i h =
+pub settled-keys : (e : Engine) (cpu : CpuOut) (cop : CopOut) (input : CpuIn) → AreKeys e.params (keys_of e.uses) → (IsTrue cpu.issue_valid → IsKey e.params (spec.issue_key cpu)) → AreKeys e.params (keys_of (spec.settled_uses e cpu cop input))
+settled-keys e cpu cop input k i =
     subst (AreKeys e.params)
-    (sym (harts-keys e.set e.cycle 0 e.units (spec.ended_uses e cpu cop input) ∙ ended-keys e cpu cop input h))
+    (sym (harts-keys e.set e.cycle 0 e.units (spec.ended_uses e cpu cop input) ∙ ended-keys e cpu cop input))
     (started-keys e cpu k i)
+
+-- ---- the entry of a hit
+
+some_is : (o : Option Entry) (entry : Entry) → o ≡ Some entry → IsSome o
+some_is None entry e = absurd (cc)
+some_is (Some other) entry e = refl
+
+pub hit-entry : (set : List UnitTable) (p : Params) (word : ℕ) (hit : Option Hit) → IfSome hit (λ h. HasFlagsOf (entry_at set h) p word h) → IfSome hit (λ h. IsSome (entry_at set h))
+hit-entry set p word None f = tt
+hit-entry set p word (Some h) f = some_is (entry_at set h) f.entry f.there

@@ -110,7 +110,7 @@ below p q (key ∷ keys) a e = go (nat_eq q (number_of p key)) refl e (λ e. bel
     go false s e rest = rest e
 
 -- each key has room
-fit : (p : Params) (keys : List Key) → AreKeys p keys → length keys ≤ room_of p
+pub fit : (p : Params) (keys : List Key) → AreKeys p keys → length keys ≤ room_of p
 fit p keys k =
     subst (λ n. n ≤ room_of p) (length-map keys (number_of p))
     (length-le_from_distinct_below (map (number_of p) keys) (room_of p) k.distinct (λ q e. below p q keys k.each e))

@@ -1,11 +1,9 @@
 //! The engine: what the coprocessors drive in a cycle, and their state after it.
-ghost use Rattle.std.specs.Prelude.{◌≡◌, ◌&&◌, ◌<◌, ◌≤◌, ◌*◌, ◌^◌, IfOk, IfSome, IsSome, IsTrue, Option, length, replicate, All, vec_len};
-ghost use Rattle.std.specs.Option.{option_map};
+ghost use Rattle.std.specs.Prelude.{◌≡◌, ◌&&◌, ◌<◌, ◌≤◌, ◌^◌, IfOk, IsTrue, Option, length, replicate, All};
 ghost use Rattle.xif_base.specs.Params.{IsInRange};
 ghost use Rattle.xif_base.specs.declared.params.Key.{Key};
 ghost use Rattle.xif_drive.specs.Scripts.{IsLawful as IsLawfulScript};
 ghost use Rattle.coproc_config.specs.Check.{IsLawful as IsLawfulSet};
-ghost use Rattle.coproc_config.specs.Accept.{entry_at};
 ghost use Rattle.coproc_config.specs.State.{zeros, IsStateOf};
 ghost use Rattle.cycle_spec.specs.State.{new_engine};
 ghost use Rattle.cycle_spec.specs.Engine.{engine_drive, engine_clock, units_of, units_ahead};
@@ -110,34 +108,41 @@ impl Engine {
     pub fn drive(&self, cpu: &CpuOut) -> CopOut
         ensures { result ≡ engine_drive self.now cpu.now }
     {
-        let issue_ready = self.issue_ready(cpu);
+        let starts = self.starts(cpu);
+        let issue_ready = self.issue_ready(starts, cpu);
         let hit = if issue_ready {
             self.offered_hit(cpu)
         } else {
             None
         };
-        cop_out(
-            issue_ready,
-            hit,
-            self.register_ready(cpu),
-            self.offered_use(),
-        )
+        let register_ready = self.register_ready(starts, issue_ready, cpu);
+        cop_out(issue_ready, hit, register_ready, self.offered_use())
     }
 
     /// The end of a cycle.
     pub fn clock(&mut self, cpu: &CpuOut, cop: &CopOut, input: &CpuIn)
         requires key { IsTrue cpu.now.issue_valid → IsKey self.old.params (spec.issue_key cpu.now) }
         requires count { self.old.cycle < 2 ^ 63 }
-        ensures { self.new ≡ engine_clock self.old cpu.now cop.now input.now }
+        ensures after { self.new ≡ engine_clock self.old cpu.now cop.now input.now }
+
+        // No more uses are kept than there are keys.
+        ensures few { length self.new.uses ≤ room_of self.old.params }
     {
         let starts = self.starts(cpu);
-        let hit = self.offered_hit(cpu);
-        let issue_start = self.issue_start(cpu);
-        let register_start = self.register_start(cpu);
+        let issue_start = self.issue_start(starts, cpu);
+        let register_start = self.register_start(starts, cpu);
         let offered = self.offered_use();
         start_step(&mut self.uses, starts, cpu, self.cycle);
         let uses = self.uses.as_mut_slice();
-        answer_step(uses, issue_start, hit, self.accepted, cpu, cop);
+        answer_step(
+            uses,
+            issue_start,
+            &self.set,
+            &self.params,
+            self.accepted,
+            cpu,
+            cop,
+        );
         given_step(uses, cpu, cop);
         decide_step(uses, cpu);
         end_step(uses, offered, cop, input);
@@ -161,7 +166,8 @@ impl Engine {
     /// The accumulators of a hart after its ready instructions.
     pub fn state(&self, hart: u8) -> &UnitState
         requires { hart < self.now.params.num_harts }
-        ensures { result.now ≡ units_of self.now hart }
+        ensures value { result.now ≡ units_of self.now hart }
+        ensures fits { IsStateOf self.now.set result.now }
     {
         &self.units[usize::from(hart)]
     }
@@ -171,7 +177,8 @@ impl Engine {
     /// the first that hasn't. A kill takes back what the killed ones changed.
     pub fn ahead(&self, hart: u8) -> &UnitState
         requires { hart < self.now.params.num_harts }
-        ensures { result.now ≡ units_ahead self.now hart }
+        ensures value { result.now ≡ units_ahead self.now hart }
+        ensures fits { IsStateOf self.now.set result.now }
     {
         &self.ahead[usize::from(hart)]
     }
@@ -186,37 +193,38 @@ impl Engine {
     }
 
     /// The latest use of a key, the one that starts in this cycle among them.
-    fn started_latest(&self, key: Key, cpu: &CpuOut) -> Option<Use>
+    fn started_latest(&self, starts: bool, key: Key, cpu: &CpuOut) -> Option<Use>
+        requires { starts ≡ spec.starts self.now cpu.now }
         ensures { result ≡ spec.latest key (spec.started_uses self.now cpu.now) }
     {
         let offered = issue_key(cpu);
-        if self.starts(cpu) && same_key(offered, key) {
+        if starts && same_key(offered, key) {
             Some(new_use(offered, self.cycle, cpu.issue_instr))
         } else {
             latest(key, &self.uses)
         }
     }
 
-    fn issue_start(&self, cpu: &CpuOut) -> u64
+    fn issue_start(&self, starts: bool, cpu: &CpuOut) -> u64
+        requires { starts ≡ spec.starts self.now cpu.now }
         ensures { result ≡ spec.issue_start self.now cpu.now }
     {
-        start_or(self.started_latest(issue_key(cpu), cpu), self.cycle)
+        start_or(self.started_latest(starts, issue_key(cpu), cpu), self.cycle)
     }
 
     /// What the units answer to the word.
     fn offered_hit(&self, cpu: &CpuOut) -> Option<Hit>
-        ensures hit { result ≡ spec.offered_hit self.now cpu.now }
-        ensures entry { IfSome result (λ hit. IsSome (entry_at self.now.set hit)) }
+        ensures { result ≡ spec.offered_hit self.now cpu.now }
     {
         self.set.accept(&self.params, cpu.issue_instr)
     }
 
-    fn issue_ready(&self, cpu: &CpuOut) -> bool
+    fn issue_ready(&self, starts: bool, cpu: &CpuOut) -> bool
+        requires { starts ≡ spec.starts self.now cpu.now }
         ensures { result ≡ spec.issue_ready self.now cpu.now }
     {
-        let turn = turn_of(self.issue_turns, self.issue_start(cpu));
         cpu.issue_valid
-            && u64::from(self.script.issue(turn.number)) <= turn.age
+            && self.is_past_issue(self.issue_start(starts, cpu))
             && may_answer(
                 self.params.split,
                 self.offered_hit(cpu),
@@ -224,34 +232,49 @@ impl Engine {
             )
     }
 
-    // ---- the register channel
-
-    fn register_start(&self, cpu: &CpuOut) -> u64
-        ensures { result ≡ spec.register_start self.now cpu.now }
+    fn is_past_issue(&self, start: u64) -> bool
+        ensures { result
+            ≡ turns.is_past self.now.script.issue (turns.turn_of self.now.issue_turns start) }
     {
-        start_or(self.started_latest(register_key(cpu), cpu), self.cycle)
+        let turn = turn_of(self.issue_turns, start);
+        u64::from(self.script.issue(turn.number)) <= turn.age
     }
 
-    fn register_ready(&self, cpu: &CpuOut) -> bool
+    // ---- the register channel
+
+    fn register_start(&self, starts: bool, cpu: &CpuOut) -> u64
+        requires { starts ≡ spec.starts self.now cpu.now }
+        ensures { result ≡ spec.register_start self.now cpu.now }
+    {
+        start_or(
+            self.started_latest(starts, register_key(cpu), cpu),
+            self.cycle,
+        )
+    }
+
+    fn register_ready(&self, starts: bool, issue_ready: bool, cpu: &CpuOut) -> bool
+        requires starts { starts ≡ spec.starts self.now cpu.now }
+        requires issue_ready { issue_ready ≡ spec.issue_ready self.now cpu.now }
         ensures { result ≡ spec.register_ready self.now cpu.now }
     {
         if self.params.split {
-            cpu.register_valid && self.takes_registers(cpu)
+            cpu.register_valid && self.takes_registers(starts, cpu)
         } else {
-            self.issue_ready(cpu)
+            issue_ready
         }
     }
 
     /// With split channels: whether the delay has passed, and the use that is named may take its
     /// registers.
-    fn takes_registers(&self, cpu: &CpuOut) -> bool
+    fn takes_registers(&self, starts: bool, cpu: &CpuOut) -> bool
+        requires { starts ≡ spec.starts self.now cpu.now }
         ensures { result
             ≡ (turns.is_past self.now.script.register
             (turns.turn_of self.now.register_turns (spec.register_start self.now cpu.now))
             && spec.may_take (spec.register_use self.now cpu.now) cpu.now.register_rs_valid) }
     {
-        let turn = turn_of(self.register_turns, self.register_start(cpu));
-        let named = self.started_latest(register_key(cpu), cpu);
+        let named = self.started_latest(starts, register_key(cpu), cpu);
+        let turn = turn_of(self.register_turns, start_or(named, self.cycle));
         u64::from(self.script.register(turn.number)) <= turn.age
             && may_take(named, cpu.register_rs_valid)
     }

@@ -1,5 +1,5 @@
 //! The units: the uses of a hart are applied in the order of their issue handshakes.
-ghost use Rattle.std.specs.Prelude.{◌≡◌, ◌<◌, ◌≤◌, ◌^◌, IsSome, IfSome, length, All, slice_index_or, []};
+ghost use Rattle.std.specs.Prelude.{◌≡◌, ◌<◌, length, All};
 ghost use Rattle.coproc_config.specs.Check.{IsLawful};
 ghost use Rattle.coproc_config.specs.State.{IsStateOf};
 ghost use Rattle.xif_session.specs.Facts as session;

@@ -1,12 +1,16 @@
 //! The steps of a cycle on the uses, in their order.
-ghost use Rattle.std.specs.Prelude.{◌≡◌, ◌<◌, ◌≤◌, ◌++◌, ◌∷◌, [], not, length, map, filter, vec_len, vec_capacity, Option, IsTrue};
+ghost use Rattle.std.specs.Prelude.{◌≡◌, ◌<◌, ◌≤◌, not, length, map, filter, vec_capacity, Option, IsTrue};
+ghost use Rattle.xif_base.specs.Params.{IsInRange};
+ghost use Rattle.coproc_config.specs.Check.{IsLawful};
+ghost use Rattle.coproc_config.specs.Accept.{hit_of};
 ghost use Rattle.xif_session.specs.Facts as session;
 ghost use Rattle.cycle_spec.specs.Engine as spec;
+ghost use Rattle.coproc_engine.specs.Fits.{HaveEntries};
 
 use crate::find::{commit_key, issue_key, latest, register_key, same_key};
-use coproc_config::Hit;
+use coproc_config::{Hit, Set};
 use cycle_spec::Use;
-use xif_base::Key;
+use xif_base::{Key, Params};
 use xif_session::Decision;
 use xif_signals::{CopOut, CpuIn, CpuOut};
 
@@ -69,14 +73,21 @@ fn remove_key(uses: &mut Vec<Use>, key: Key)
 pub fn answer_step(
     uses: &mut [Use],
     start: u64,
-    hit: Option<Hit>,
+    set: &Set,
+    params: &Params,
     order: u64,
     cpu: &CpuOut,
     cop: &CopOut,
 )
-    ensures { uses.new ≡ spec.answer_step start hit order cpu.now cop.now uses.old }
+    requires lawful { IsLawful set.now }
+    requires params { IsInRange params.now }
+    ensures uses { uses.new
+        ≡ spec.answer_step start (hit_of set.now params.now cpu.now.issue_instr) order cpu.now
+        cop.now uses.old }
+    ensures entries { HaveEntries set.now uses.old → HaveEntries set.now uses.new }
 {
     if cpu.issue_valid && cop.issue_ready {
+        let hit = set.accept(params, cpu.issue_instr);
         answer(uses, start, hit, order);
     }
 }

@@ -1,5 +1,5 @@
 //! The transactions of a channel, counted.
-ghost use Rattle.std.specs.Prelude.{◌≡◌, ◌<◌, ◌+◌, ◌^◌, IfSome, Option, Some, None};
+ghost use Rattle.std.specs.Prelude.{◌≡◌, ◌<◌, ◌+◌, ◌^◌, Option, Some, None};
 ghost use Rattle.cycle_spec.specs.Turns as spec;
 ghost use Rattle.coproc_engine.specs.Fits.{CanCountOn};
 

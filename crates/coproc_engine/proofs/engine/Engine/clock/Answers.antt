@@ -1,14 +1,16 @@
-use Rattle.std.proofs.Common.{◌+◌, rules, arith, ap₂, ◌≡◌, ◌<◌, ◌≤◌, length, subst, sym, ◌∙◌, filter, not, vec_capacity, IfSome, IsSome, IsTrue, All}
-use Rattle.coproc_config.specs.Accept.{entry_at}
+use Rattle.std.proofs.Common.{List, ◌+◌, ap, rules, arith, ap₂, ◌≡◌, ◌<◌, ◌≤◌, length, subst, sym, ◌∙◌, filter, not, vec_capacity, IsTrue, All}
+use Rattle.coproc_config.specs.Accept.{hit_of}
 use Rattle.coproc_config.specs.State.{IsStateOf}
-use Rattle.std.proofs.lemmas.List.{with_items_is}
+use Rattle.std.proofs.lemmas.List.{with_items_is, length-map}
 use Rattle.std.specs.Vec.{with_items}
+use Rattle.cycle_spec.specs.declared.use_of.Use.{Use}
 use Rattle.cycle_spec.specs.State.{Engine}
 use Rattle.cycle_spec.specs.Engine as spec
+use Rattle.cycle_spec.specs.Turns.{transactions_after}
 use Rattle.coproc_engine.specs.Fits.{IsKey, AreCountedBy, IsCounted, AreKeys, AreUnits, AreUses, HaveEntries, ahead_in_harts, keys_of, room_of}
 use Rattle.coproc_engine.proofs.Counted.{after_counted, accepted_counted}
-use Rattle.coproc_engine.proofs.Keys.{room-left}
-use Rattle.coproc_engine.proofs.Kept.{offered-valid, ended-entries, settled-keys}
+use Rattle.coproc_engine.proofs.Keys.{room-left, fit}
+use Rattle.coproc_engine.proofs.Kept.{offered-valid, started-entries, ended-entries, settled-keys}
 use Rattle.coproc_engine.proofs.engine.Engine.clock.Goals as goal
 
 pub start_step-requires : goal.start_step-requires
@@ -25,25 +27,55 @@ pub settle-requires-clause-entries : goal.settle-requires-clause-entries
 settle-requires-clause-entries c =
     let e : Engine = c.args.self.now in
     let cpu = c.args.cpu.now in
-    let same : c.end_step.new.uses ≡ spec.ended_uses e cpu c.args.cop.now c.args.input.now = search rules in
-    let hit : IfSome (spec.offered_hit e cpu) (λ h. IsSome (entry_at e.set h)) = subst (λ found. IfSome found (λ h. IsSome (entry_at e.set h))) c.offered_hit-hit.ensures.hit c.offered_hit-hit.ensures.entry in
+    let x = c.self.inside in
+    let cop = c.args.cop.now in
+    let input = c.args.input.now in
+    let started : c.as_mut_slice-uses.result.now ≡ spec.started_uses e cpu = search rules in
+    let answered : c.answer_step.new.uses ≡ spec.answered_uses e cpu cop =
+    c.answer_step.ensures.uses
+    ∙ ap₂ (λ start us. spec.answer_step start (hit_of x.set x.params cpu.issue_instr) x.accepted cpu cop us) c.issue_start-issue_start.ensures started
+    ∙ ap (λ (y : Engine). spec.answer_step (spec.issue_start e cpu) (spec.offered_hit y cpu) y.accepted cpu cop (spec.started_uses e cpu)) c.self.view_is in
+    let given : c.given_step.new.uses ≡ spec.given_uses e cpu cop = c.given_step.ensures ∙ ap (spec.given_step cpu cop) answered in
+    let decided : c.decide_step.new.uses ≡ spec.decided_uses e cpu cop = c.decide_step.ensures ∙ ap (spec.decide_step cpu) given in
+    let ended : c.end_step.new.uses ≡ spec.ended_uses e cpu cop input =
+    c.end_step.ensures ∙ ap₂ (λ offered us. spec.end_step offered cop input us) c.offered_use-offered.ensures decided in
     let entries : HaveEntries e.set e.uses = subst (λ (x : Engine). HaveEntries x.set x.uses) c.self.view_is c.self.invariant.1.1.0.entries in
-    subst (λ us. HaveEntries c.self.inside.set us) (sym same)
-    (subst (λ (x : Engine). HaveEntries x.set (spec.ended_uses e cpu c.args.cop.now c.args.input.now)) (sym c.self.view_is)
-    (ended-entries e cpu c.args.cop.now c.args.input.now hit entries))
+    let begun : HaveEntries x.set c.as_mut_slice-uses.result.now =
+    subst (λ us. HaveEntries x.set us) (sym started)
+    (subst (λ (y : Engine). HaveEntries y.set (spec.started_uses e cpu)) (sym c.self.view_is) (started-entries e.set e cpu entries)) in
+    let behind : HaveEntries e.set (spec.answered_uses e cpu c.args.cop.now) =
+    subst (λ (y : Engine). HaveEntries y.set (spec.answered_uses e cpu c.args.cop.now)) c.self.view_is
+    (subst (λ us. HaveEntries x.set us) answered (c.answer_step.ensures.entries begun)) in
+    subst (λ us. HaveEntries x.set us) (sym ended)
+    (subst (λ (y : Engine). HaveEntries y.set (spec.ended_uses e cpu c.args.cop.now c.args.input.now)) (sym c.self.view_is)
+    (ended-entries e cpu c.args.cop.now c.args.input.now behind))
 
 pub invariant_of-self : goal.invariant_of-self
 invariant_of-self c =
     let e : Engine = c.args.self.now in
     let cpu = c.args.cpu.now in
     let x = c.self.inside in
-    let hit : IfSome (spec.offered_hit e cpu) (λ h. IsSome (entry_at e.set h)) = subst (λ found. IfSome found (λ h. IsSome (entry_at e.set h))) c.offered_hit-hit.ensures.hit c.offered_hit-hit.ensures.entry in
     let keys : AreKeys e.params (keys_of e.uses) = subst (λ (x : Engine). AreKeys x.params (keys_of x.uses)) c.self.view_is c.self.invariant.1.1.0.keys in
-    let same : c.settle.new.uses ≡ spec.settled_uses e cpu c.args.cop.now c.args.input.now = search rules in
+    let cop = c.args.cop.now in
+    let input = c.args.input.now in
+    let started : c.as_mut_slice-uses.result.now ≡ spec.started_uses e cpu = search rules in
+    let answered : c.answer_step.new.uses ≡ spec.answered_uses e cpu cop =
+    c.answer_step.ensures.uses
+    ∙ ap₂ (λ start us. spec.answer_step start (hit_of x.set x.params cpu.issue_instr) x.accepted cpu cop us) c.issue_start-issue_start.ensures started
+    ∙ ap (λ (y : Engine). spec.answer_step (spec.issue_start e cpu) (spec.offered_hit y cpu) y.accepted cpu cop (spec.started_uses e cpu)) c.self.view_is in
+    let given : c.given_step.new.uses ≡ spec.given_uses e cpu cop = c.given_step.ensures ∙ ap (spec.given_step cpu cop) answered in
+    let decided : c.decide_step.new.uses ≡ spec.decided_uses e cpu cop = c.decide_step.ensures ∙ ap (spec.decide_step cpu) given in
+    let ended : c.end_step.new.uses ≡ spec.ended_uses e cpu cop input =
+    c.end_step.ensures ∙ ap₂ (λ offered us. spec.end_step offered cop input us) c.offered_use-offered.ensures decided in
+    let at : c.deref_mut.result.now ≡ x.units.items = search rules in
+    let settled_are : c.settle.new.uses ≡ spec.settled_uses e cpu cop input =
+    c.settle.ensures.uses
+    ∙ ap₂ (λ units us. spec.ready_in_harts x.set x.cycle 0 units us) at ended
+    ∙ ap (λ (y : Engine). spec.ready_in_harts y.set y.cycle 0 y.units (spec.ended_uses e cpu cop input)) c.self.view_is in
     let settled : AreKeys x.params (keys_of c.settle.new.uses) =
-    subst (λ us. AreKeys x.params (keys_of us)) (sym same)
+    subst (λ us. AreKeys x.params (keys_of us)) (sym settled_are)
     (subst (λ (y : Engine). AreKeys y.params (keys_of (spec.settled_uses e cpu c.args.cop.now c.args.input.now))) (sym c.self.view_is)
-    (settled-keys e cpu c.args.cop.now c.args.input.now keys c.requires.key hit)) in
+    (settled-keys e cpu c.args.cop.now c.args.input.now keys c.requires.key)) in
     let fits : room_of x.params ≤ vec_capacity c.start_step.new.uses = omega (arith, c.self.invariant.1.1.0.fits, c.start_step.ensures.capacity) in
     let units : length c.settle.new.units ≡ x.units.len = search rules in
     let uses : length c.settle.new.uses ≡ c.start_step.new.uses.len = search rules in
@@ -80,3 +112,71 @@ invariant_of-self c =
         ),
       ),
     )
+
+pub returns-clause-after : goal.returns-clause-after
+returns-clause-after c =
+    let e : Engine = c.args.self.now in
+    let cpu = c.args.cpu.now in
+    let x = c.self.inside in
+    let v = c.self.view_is in
+    let cop = c.args.cop.now in
+    let input = c.args.input.now in
+    let started : c.as_mut_slice-uses.result.now ≡ spec.started_uses e cpu = search rules in
+    let answered : c.answer_step.new.uses ≡ spec.answered_uses e cpu cop =
+    c.answer_step.ensures.uses
+    ∙ ap₂ (λ start us. spec.answer_step start (hit_of x.set x.params cpu.issue_instr) x.accepted cpu cop us) c.issue_start-issue_start.ensures started
+    ∙ ap (λ (y : Engine). spec.answer_step (spec.issue_start e cpu) (spec.offered_hit y cpu) y.accepted cpu cop (spec.started_uses e cpu)) c.self.view_is in
+    let given : c.given_step.new.uses ≡ spec.given_uses e cpu cop = c.given_step.ensures ∙ ap (spec.given_step cpu cop) answered in
+    let decided : c.decide_step.new.uses ≡ spec.decided_uses e cpu cop = c.decide_step.ensures ∙ ap (spec.decide_step cpu) given in
+    let ended : c.end_step.new.uses ≡ spec.ended_uses e cpu cop input =
+    c.end_step.ensures ∙ ap₂ (λ offered us. spec.end_step offered cop input us) c.offered_use-offered.ensures decided in
+    let at : c.deref_mut.result.now ≡ x.units.items = search rules in
+    let settled_are : c.settle.new.uses ≡ spec.settled_uses e cpu cop input =
+    c.settle.ensures.uses
+    ∙ ap₂ (λ units us. spec.ready_in_harts x.set x.cycle 0 units us) at ended
+    ∙ ap (λ (y : Engine). spec.ready_in_harts y.set y.cycle 0 y.units (spec.ended_uses e cpu cop input)) c.self.view_is in
+    let units : length c.settle.new.units ≡ x.units.len = search rules in
+    let uses : length c.settle.new.uses ≡ c.start_step.new.uses.len = search rules in
+    let uses_are : (with_items c.start_step.new.uses c.settle.new.uses).items ≡ spec.settled_uses e cpu cop input =
+    with_items_is c.start_step.new.uses c.settle.new.uses uses ∙ settled_are in
+    let units_are : (with_items x.units c.settle.new.units).items ≡ spec.units_in_harts e.set 0 e.units (spec.ended_uses e cpu cop input) =
+    with_items_is x.units c.settle.new.units units
+    ∙ c.settle.ensures.units
+    ∙ ap₂ (λ units us. spec.units_in_harts x.set 0 units us) at ended
+    ∙ ap (λ (y : Engine). spec.units_in_harts y.set 0 y.units (spec.ended_uses e cpu cop input)) v in
+    let accepted : c.accepted_after-self-inside.result ≡ spec.accepted_after e.accepted cpu cop =
+    c.accepted_after-self-inside.ensures ∙ ap (λ (y : Engine). spec.accepted_after y.accepted cpu cop) v in
+    let issue : c.owner_if.result ≡ spec.owner_if cpu.issue_valid (spec.issue_start e cpu) =
+    c.owner_if.ensures ∙ ap (spec.owner_if cpu.issue_valid) c.issue_start-issue_start.ensures in
+    let issues : c.transactions_after-self-inside.result ≡ transactions_after e.issue_turns (spec.owner_if cpu.issue_valid (spec.issue_start e cpu)) cop.issue_ready =
+    c.transactions_after-self-inside.ensures
+    ∙ ap (λ owner. transactions_after x.issue_turns owner cop.issue_ready) issue
+    ∙ ap (λ (y : Engine). transactions_after y.issue_turns (spec.owner_if cpu.issue_valid (spec.issue_start e cpu)) cop.issue_ready) v in
+    let register : c.owner_if-2.result ≡ spec.owner_if cpu.register_valid (spec.register_start e cpu) =
+    c.owner_if-2.ensures ∙ ap (spec.owner_if cpu.register_valid) c.register_start-register_start.ensures in
+    let registers : c.transactions_after-self-inside-2.result ≡ transactions_after e.register_turns (spec.owner_if cpu.register_valid (spec.register_start e cpu)) cop.register_ready =
+    c.transactions_after-self-inside-2.ensures
+    ∙ ap (λ owner. transactions_after x.register_turns owner cop.register_ready) register
+    ∙ ap (λ (y : Engine). transactions_after y.register_turns (spec.owner_if cpu.register_valid (spec.register_start e cpu)) cop.register_ready) v in
+    let waiting : c.result_waiting_after-self-inside.result ≡ spec.result_waiting_after (spec.offered_use e) input =
+    c.result_waiting_after-self-inside.ensures ∙ ap (λ offered. spec.result_waiting_after offered input) c.offered_use-offered.ensures in
+    λ i. record {
+      params = (v i).params;
+      set = (v i).set;
+      script = (v i).script;
+      cycle = (v i).cycle + 1;
+      uses = uses_are i;
+      accepted = accepted i;
+      units = units_are i;
+      issue_turns = issues i;
+      register_turns = registers i;
+      result_waiting = waiting i;
+    }
+
+pub returns-clause-few : goal.returns-clause-few
+returns-clause-few c =
+    let x = c.self.inside in
+    let us : List Use = (with_items c.start_step.new.uses c.settle.new.uses).items in
+    let few : length us ≤ room_of x.params =
+    subst (λ n. n ≤ room_of x.params) (length-map us (λ (u : Use). u.key)) (fit x.params (keys_of us) (invariant_of-self c).1.1.0.keys) in
+    subst (λ (y : Engine). length us ≤ room_of y.params) c.self.view_is few

@@ -12,7 +12,7 @@ returns-then-same_key c =
     let cpu = c.args.cpu.now in
     let own : same_key (spec.issue_key cpu) c.args.key ≡ true = search rules in
     let made : c.new_use.result ≡ spec.new_use (spec.issue_key cpu) e.cycle cpu.issue_instr = search rules in
-    ap Some made ∙ sym (started-own (spec.starts e cpu) c.args.key cpu e.cycle e.uses (sym c.starts.ensures ∙ c.if-starts.true) own)
+    ap Some made ∙ sym (started-own (spec.starts e cpu) c.args.key cpu e.cycle e.uses (sym c.requires ∙ c.if-starts.true) own)
 
 pub returns-else-starts : goal.returns-else-starts
 returns-else-starts c =
