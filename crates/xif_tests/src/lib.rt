@@ -9,6 +9,8 @@ mod coprocessors;
 #[cfg(test)]
 mod drive;
 #[cfg(test)]
+mod engine;
+#[cfg(test)]
 mod flight;
 #[cfg(test)]
 mod images;
