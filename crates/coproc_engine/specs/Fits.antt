@@ -11,6 +11,7 @@ use Rattle.coproc_config.specs.Accept.{entry_at}
 use Rattle.coproc_config.specs.State.{IsStateOf}
 use Rattle.cycle_spec.specs.declared.turn.Transactions.{Transactions}
 use Rattle.cycle_spec.specs.declared.use_of.Use.{Use}
+use Rattle.cycle_spec.specs.Counts.{AreCountedBy}
 use Rattle.cycle_spec.specs.Engine.{has_operands, units_behind}
 
 -- a key of the interface
@@ -19,16 +20,6 @@ pub record IsKey (p : Params) (key : Key) : Type 0 where
   pub id : key.id < 2 ^ p.id_width
 
 -- ---- internal
-
--- a channel's transactions can be counted on
-pub record CanCountOn (ts : Transactions) : Type 0 where
-  pub begun : ts.begun < 2 ^ 63
-  pub age : IfSome ts.waiting (λ t. t.turn.age < 2 ^ 63)
-
--- no more of them began, and none is older, than there were cycles
-pub record AreCountedBy (cycle : ℕ) (ts : Transactions) : Type 0 where
-  pub begun : ts.begun ≤ cycle
-  pub age : IfSome ts.waiting (λ t. t.turn.age ≤ cycle)
 
 -- no count is above that of the cycles
 pub record IsCounted (cycle accepted : ℕ) (issue register : Transactions) : Type 0 where

@@ -18,9 +18,8 @@ use crate::find::{
 };
 use crate::settle::settle;
 use crate::steps::{answer_step, decide_step, end_step, given_step, new_use, start_step};
-use crate::transactions::{NO_TRANSACTIONS, transactions_after, turn_of};
 use coproc_config::{Hit, Set, UnitState};
-use cycle_spec::{Transactions, Use};
+use cycle_spec::{NO_TRANSACTIONS, Transactions, Use, transactions_after, turn_of};
 use rv32_table::rd_field;
 use std::alloc::Global;
 use std::marker::Model;

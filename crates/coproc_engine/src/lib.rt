@@ -15,6 +15,5 @@ mod engine;
 mod find;
 mod settle;
 mod steps;
-mod transactions;
 
 pub use engine::Engine;

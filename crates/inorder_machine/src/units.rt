@@ -109,10 +109,11 @@ fn read(registers: &[u32; 32], register: u8) -> u32
 /// writeback one by one: with the first rd gets the low half, and with the second the register
 /// behind it, the odd one of a pair, gets the high half. Where rd is x0 neither is written.
 pub fn unit_write(rd: u8, flags: WriteFlags, value: u64) -> Write
-    requires rd { rd < 32 }
-    requires even { has_flag flags.0 1 ≡ true → rd % 2 ≡ 0 }
+    requires { rd < 32 }
     ensures write { result ≡ unit_write rd flags.0 value }
-    ensures names { IsWrite result }
+
+    // It names registers of the file if a pair has an even rd.
+    ensures names { (has_flag flags.0 1 ≡ true → rd % 2 ≡ 0) → IsWrite result }
 {
     if rd == 0 {
         return Write::None;

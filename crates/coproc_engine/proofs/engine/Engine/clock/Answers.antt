@@ -7,8 +7,10 @@ use Rattle.cycle_spec.specs.declared.use_of.Use.{Use}
 use Rattle.cycle_spec.specs.State.{Engine}
 use Rattle.cycle_spec.specs.Engine as spec
 use Rattle.cycle_spec.specs.Turns.{transactions_after}
-use Rattle.coproc_engine.specs.Fits.{IsKey, AreCountedBy, IsCounted, AreKeys, AreUnits, AreUses, HaveEntries, ahead_in_harts, keys_of, room_of}
-use Rattle.coproc_engine.proofs.Counted.{after_counted, accepted_counted}
+use Rattle.cycle_spec.specs.Counts.{AreCountedBy}
+use Rattle.coproc_engine.specs.Fits.{IsKey, IsCounted, AreKeys, AreUnits, AreUses, HaveEntries, ahead_in_harts, keys_of, room_of}
+use Rattle.cycle_spec.proofs.Counted.{after_counted}
+use Rattle.coproc_engine.proofs.Counted.{accepted_counted}
 use Rattle.coproc_engine.proofs.Keys.{room-left, fit}
 use Rattle.coproc_engine.proofs.Kept.{offered-valid, started-entries, ended-entries, settled-keys}
 use Rattle.coproc_engine.proofs.engine.Engine.clock.Goals as goal

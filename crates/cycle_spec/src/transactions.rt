@@ -1,9 +1,9 @@
-//! The transactions of a channel, counted.
+//! The step of a channel's transactions in a cycle, for the core and for the engine.
 ghost use Rattle.std.specs.Prelude.{◌≡◌, ◌<◌, ◌+◌, ◌^◌, Option, Some, None};
 ghost use Rattle.cycle_spec.specs.Turns as spec;
-ghost use Rattle.coproc_engine.specs.Fits.{CanCountOn};
+ghost use Rattle.cycle_spec.specs.Counts.{CanCountOn};
 
-use cycle_spec::{Transaction, Transactions, Turn};
+use crate::turn::{Transaction, Transactions, Turn};
 
 /// No transaction began yet.
 pub const NO_TRANSACTIONS: Transactions = Transactions {
