@@ -3,3 +3,4 @@ pub mod Order
 pub mod Indexed
 pub mod Slots
 pub mod Kept
+pub mod Counts

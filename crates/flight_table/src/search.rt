@@ -333,3 +333,16 @@ fn is_held(ring: &HeapCircularBuffer<Entry>, id: u16) -> bool
     }
     false
 }
+
+/// The oldest unknown word that holds an id.
+pub(crate) fn holder_of(ring: &HeapCircularBuffer<Entry>, id: u16) -> Option<Entry>
+    ensures { result ≡ find (flight.holds_id id) ring.now.items }
+{
+    for index in 0..ring.len() {
+        let entry = entry_at(ring, index);
+        if holds_id(entry, id) {
+            return Some(*entry);
+        }
+    }
+    None
+}

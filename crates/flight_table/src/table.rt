@@ -12,8 +12,8 @@ use crate::change::{Change, change_all};
 use crate::entry::{Wanted, stop_by};
 use crate::registers::Registers;
 use crate::search::{
-    certain, entry_at, entry_of, first_among, first_behind, free_id, is_any_stopping, operand_from,
-    place_of, ready_among, youngest_released, youngest_writer,
+    certain, entry_at, entry_of, first_among, first_behind, free_id, holder_of, is_any_stopping,
+    operand_from, place_of, ready_among, youngest_released, youngest_writer,
 };
 use crate::writers::{Writers, forget, mend, mend_younger, note};
 use circular_buffer::HeapCircularBuffer;
@@ -162,7 +162,7 @@ impl FlightTable {
         } }
     {
         let seq = self.next_seq;
-        let entry = Entry {
+        self.add(Entry {
             seq,
             pc,
             word,
@@ -177,11 +177,30 @@ impl FlightTable {
             response: None,
             operands_sent: false,
             released: false,
-        };
+        });
+        seq
+    }
+
+    /// The number of the next entry.
+    pub fn next_seq(&self) -> u64
+        ensures { result ≡ self.now.next_seq }
+    {
+        self.next_seq
+    }
+
+    /// Adds an entry that was made ahead, as the youngest.
+    pub fn add(&mut self, entry: Entry)
+        requires room { length self.old.entries < self.old.window }
+        requires next { self.old.next_seq < 2 ^ 63 }
+        requires number { entry.seq ≡ self.old.next_seq }
+        ensures { self.new ≡ record self.old {
+          next_seq = self.old.next_seq + 1;
+          entries = self.old.entries ++ entry ∷ [];
+        } }
+    {
         note(&mut self.writers, self.dual_write, &entry);
         push(&mut self.ring, entry);
         self.next_seq += 1;
-        seq
     }
 
     /// The register x`register` as the entry of a number reads it: what the youngest older entry
@@ -300,6 +319,18 @@ impl FlightTable {
         mend_younger(&mut self.writers, &self.ring, self.dual_write, seq);
     }
 
+    /// Removes all entries but so many of the oldest.
+    pub fn keep(&mut self, count: u8)
+        ensures { self.new ≡ record self.old { entries = take count self.old.entries } }
+    {
+        if count == 0 {
+            self.cut_all();
+        } else if count < self.len() {
+            let youngest = self.get(count - 1);
+            self.cut_after(youngest.seq);
+        }
+    }
+
     /// Removes all entries.
     pub fn cut_all(&mut self)
         ensures { self.new ≡ record self.old { entries = [] } }
@@ -327,6 +358,13 @@ impl FlightTable {
         ensures { result ≡ flight.free_id self.now.entries }
     {
         free_id(&self.ring)
+    }
+
+    /// The unknown word that holds an id, the oldest if there are more.
+    pub fn holder_of(&self, id: u16) -> Option<Entry>
+        ensures { result ≡ find (flight.holds_id id) self.now.entries }
+    {
+        holder_of(&self.ring, id)
     }
 
     /// The youngest entry that is older than the one of a number and may write a register. By the

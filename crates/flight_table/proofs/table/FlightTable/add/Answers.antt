@@ -4,7 +4,7 @@ use Rattle.cycle_spec.specs.declared.entry.Entry.{Entry}
 use Rattle.flight_table.specs.Table.{Table}
 use Rattle.flight_table.specs.Index.{IsKept}
 use Rattle.flight_table.proofs.Kept.{push_kept}
-use Rattle.flight_table.proofs.table.FlightTable.dispatch.Goals as goal
+use Rattle.flight_table.proofs.table.FlightTable.add.Goals as goal
 
 pub invariant_of-self : goal.invariant_of-self
 invariant_of-self c =
