@@ -1,11 +1,12 @@
 //! What the register interface carries in a cycle (CV-X-IF 1.0.0, "Register interface").
-ghost use Rattle.std.specs.Prelude.{◌≡◌, ◌<◌, ◌+◌, ◌^◌, take, if◌then◌else◌, true};
+ghost use Rattle.std.specs.Prelude.{◌≡◌, ◌<◌, ◌≤◌, ◌+◌, ◌^◌, take, if◌then◌else◌, true, IfSome};
 ghost use Rattle.xif_base.specs.Params.{IsInRange};
 ghost use Rattle.coproc_config.specs.Accept.{flag_of};
 ghost use Rattle.coproc_config.specs.Bits.{lane as lane_with};
 ghost use Rattle.inorder_machine.specs.Units.{bit_of};
 ghost use Rattle.cycle_spec.specs.Choices as spec;
 ghost use Rattle.cycle_spec.specs.Flight as flight;
+ghost use Rattle.spec_core.specs.Drives.{FitsPresented};
 
 use crate::cpu::Core;
 use crate::execution::value_or_zero;
@@ -19,7 +20,8 @@ impl Core {
     /// What the register interface carries, with this word on the issue interface, and for one of
     /// the `count` oldest entries.
     pub(crate) fn present_in(&self, offer: Option<Entry>, count: u8) -> Option<Presented>
-        ensures { result ≡ spec.present_in self.now offer (take count self.now.flight) }
+        ensures value { result ≡ spec.present_in self.now offer (take count self.now.flight) }
+        ensures fits { IfSome result (FitsPresented self.now.params) }
     {
         match self.presented_entry(offer, count) {
             None => None,
@@ -42,7 +44,8 @@ impl Core {
 
     /// The lanes and their flags for an entry.
     fn presentation_of(&self, entry: &Entry) -> Presented
-        ensures { result ≡ spec.presentation_of self.now entry.now }
+        ensures value { result ≡ spec.presentation_of self.now entry.now }
+        ensures fits { FitsPresented self.now.params result }
     {
         let late = self.is_late(entry);
         let low0 = self.half_of(entry, late, 0, Half::Low);
@@ -60,9 +63,9 @@ impl Core {
                 | self.half_flag(2, Half::Low, low2)
                 | self.half_flag(2, Half::High, high2),
             lanes: [
-                lane_of(low0, high0),
-                lane_of(low1, high1),
-                lane_of(low2, high2),
+                self.lane_of(0, low0, high0),
+                self.lane_of(1, low1, high1),
+                self.lane_of(2, low2, high2),
             ],
         }
     }
@@ -80,7 +83,9 @@ impl Core {
         requires late { late ≡ spec.is_late self.now entry.now }
         requires lane { lane < 3 }
         ensures value { result ≡ spec.half_of self.now entry.now lane half }
-        ensures lane { flight.is_here result ≡ true → lane < self.now.params.num_rs }
+        ensures low { flight.is_here result ≡ true → lane < self.now.params.num_rs }
+        ensures high { half ≡ Half.High → flight.is_here result ≡ true
+            → lane < self.now.params.dual_read }
     {
         if has_half(&self.params, entry.word, lane, half) && !(late && lane != 0) {
             self.half_value(entry, lane, half)
@@ -113,6 +118,18 @@ impl Core {
             Operand::NotYet => 0,
         }
     }
+
+    /// A lane with these halves; one that isn't here is 0.
+    fn lane_of(&self, lane: u8, low: Operand, high: Operand) -> u64
+        requires low { flight.is_here low ≡ true → lane < self.now.params.num_rs }
+        requires high { flight.is_here high ≡ true → lane < self.now.params.dual_read }
+        ensures value { result
+            ≡ lane_with (flight.value_or_zero low) (flight.value_or_zero high) }
+        ensures fits { result < 2 ^ self.now.params.rfr_width }
+        ensures none { self.now.params.num_rs ≤ lane → result ≡ 0 }
+    {
+        u64::from(value_or_zero(low)) + (u64::from(value_or_zero(high)) << 32)
+    }
 }
 
 /// Whether a half of a lane carries a register of a word: the low half that of the lane's field,
@@ -121,7 +138,8 @@ fn has_half(params: &Params, word: u32, lane: u8, half: Half) -> bool
     requires params { IsInRange params.now }
     requires lane { lane < 3 }
     ensures value { result ≡ spec.has_half params.now word lane half }
-    ensures lane { result ≡ true → lane < params.now.num_rs }
+    ensures low { result ≡ true → lane < params.now.num_rs }
+    ensures high { half ≡ Half.High → result ≡ true → lane < params.now.dual_read }
 {
     match half {
         Half::Low => lane < params.num_rs,
@@ -143,11 +161,4 @@ fn flag(params: &Params, lane: u8, half: Half) -> u8
             Some(bit) => 1 << bit,
         },
     }
-}
-
-/// A lane with these halves; one that isn't here is 0.
-fn lane_of(low: Operand, high: Operand) -> u64
-    ensures { result ≡ lane_with (flight.value_or_zero low) (flight.value_or_zero high) }
-{
-    u64::from(value_or_zero(low)) + (u64::from(value_or_zero(high)) << 32)
 }
