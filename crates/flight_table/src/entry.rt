@@ -5,7 +5,7 @@ ghost use Rattle.rv32_table.specs.Instr.{target_of};
 ghost use Rattle.inorder_machine.specs.Execute as execute;
 ghost use Rattle.xif_session.specs.Facts as session;
 ghost use Rattle.cycle_spec.specs.Flight as flight;
-ghost use Rattle.flight_table.specs.Wanted as wanted;
+ghost use Rattle.flight_table.specs.Wanted.{passes};
 
 use cycle_spec::{Entry, EntryKind};
 use inorder_machine::{StopCause, Write};
@@ -26,7 +26,7 @@ pub enum Wanted {
 }
 
 pub(crate) fn passes(wanted: Wanted, entry: &Entry) -> bool
-    ensures { result ≡ wanted.passes wanted entry.now }
+    ensures { result ≡ passes wanted entry.now }
 {
     match wanted {
         Wanted::Open => is_unknown(entry) && entry.response.is_none(),
