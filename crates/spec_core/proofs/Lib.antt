@@ -1,0 +1,5 @@
+pub mod Outcomes
+pub mod Shapes
+pub mod Lengths
+pub mod Entries
+pub mod Counted
