@@ -325,9 +325,9 @@ impl FlightTable {
     {
         if count == 0 {
             self.cut_all();
-        } else if count < self.len() {
-            let youngest = self.get(count - 1);
-            self.cut_after(youngest.seq);
+        } else if usize::from(count) < self.ring.len() {
+            let youngest = entry_at(&self.ring, usize::from(count - 1)).seq;
+            self.cut_after(youngest);
         }
     }
 
