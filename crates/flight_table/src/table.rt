@@ -10,7 +10,8 @@ use crate::change::{Change, change_all};
 use crate::entry::stop_by;
 use crate::registers::Registers;
 use crate::search::{
-    certain, entry_at, entry_of, free_id, holder_of, operand_from, place_of, ready_oldest, youngest_writer,
+    certain, entry_at, entry_of, free_id, holder_of, operand_from, place_of, ready_oldest,
+    youngest_writer,
 };
 use crate::writers::{Writers, forget, mend, mend_younger, note};
 use circular_buffer::HeapCircularBuffer;
@@ -262,9 +263,9 @@ impl FlightTable {
     {
         if count == 0 {
             self.cut_all();
-        } else if count < self.len() {
-            let youngest = self.get(count - 1);
-            self.cut_after(youngest.seq);
+        } else if usize::from(count) < self.ring.len() {
+            let youngest = entry_at(&self.ring, usize::from(count - 1)).seq;
+            self.cut_after(youngest);
         }
     }
 

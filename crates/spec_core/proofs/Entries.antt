@@ -1,5 +1,5 @@
 -- What the cycle keeps of the entries: each holds an id of the interface, and can retire.
-use Rattle.std.proofs.Common.{◌≡◌, ◌<◌, ◌≤◌, ◌+◌, ◌^◌, ◌∷◌, ◌++◌, ◌==◌, ◌||◌, ◌&&◌, ◌∙◌, ℕ, zero, suc, Bool, true, false, not, Option, Some, None, IfSome, List, [], All, map, take, drop, length, refl, sym, ap, subst, arith, if◌then◌else◌}
+use Rattle.std.proofs.Common.{◌≡◌, ◌<◌, ◌≤◌, ◌+◌, ◌^◌, ◌∷◌, ◌++◌, ◌==◌, ◌||◌, ◌&&◌, ◌∙◌, is_some, ℕ, zero, suc, Bool, true, false, not, Option, Some, None, IfSome, List, [], All, map, take, drop, length, refl, sym, ap, subst, arith, if◌then◌else◌}
 use Rattle.std.specs.Prelude.{find, unwrap_or, nat_lt}
 use Rattle.std.specs.List.{range_with_len, list_any}
 use Rattle.std.specs.Option.{option_and_then}
@@ -203,16 +203,61 @@ dispatch_has_room w h = by_mode w.mode h
 
 -- ---- the next instruction
 
-find-small : (test : ℕ → Bool) (first count : ℕ) → unwrap_or (find test (range_with_len first count)) 0 ≤ first + count
-find-small test first zero = omega arith
+find-small : (test : ℕ → Bool) (first count : ℕ) → unwrap_or (find test (range_with_len first (suc count))) 0 ≤ first + count
+find-small test first zero = go (test first)
+  where
+    go : (t : Bool) → unwrap_or (if t then Some first else None) 0 ≤ first + zero
+    go true = omega arith
+    go false = omega arith
 find-small test first (suc count) = go (test first) (find-small test (suc first) count)
   where
-    go : (t : Bool) → unwrap_or (find test (range_with_len (suc first) count)) 0 ≤ suc first + count → unwrap_or (if t then Some first else find test (range_with_len (suc first) count)) 0 ≤ first + suc count
+    go : (t : Bool) → unwrap_or (find test (range_with_len (suc first) (suc count))) 0 ≤ suc first + count
+        → unwrap_or (if t then Some first else find test (range_with_len (suc first) (suc count))) 0 ≤ first + suc count
     go true h = omega arith
     go false h = omega (arith, h)
 
 small_id : (es : List Entry) → flight.free_id es ≤ length es
-small_id es = go (length es)
+small_id es =
+    let n = length es in
+    let next : suc n ≡ n + 1 = omega arith in
+    subst (λ k. unwrap_or (find (λ id. not (list_any (flight.holds_id id) es)) (range_with_len 0 k)) 0 ≤ n) next
+    (find-small (λ id. not (list_any (flight.holds_id id) es)) 0 n)
+
+id-kept : (p : Params) (id : ℕ) (unknown : Bool) → id < 2 ^ p.id_width → (if unknown then id else 0) < 2 ^ p.id_width
+id-kept p id true l = l
+id-kept p id false l = omega (arith, l)
+
+-- the next instruction is an entry where one is dispatched
+next-kept : (answer : (pc word : ℕ) → ℕ) (w : Core) (m : Region) (ch : Choices) → w.window ≤ 2 ^ w.params.id_width → length w.flight < w.window → IsEntry w.params m (spec.next_entry answer w ch)
+next-kept answer w m ch ids room =
+    let id : flight.free_id w.flight < 2 ^ w.params.id_width = omega (arith, small_id w.flight, ids, room) in
+    let word : Option ℕ = word_at (spec.memory_behind ch.retire w.memory) (spec.ahead_behind ch.cut w.ahead) in
+    record { id = id-kept w.params (flight.free_id w.flight) (flight.is_unknown_kind (flight.kind_at word)) id; write = tt; store = tt }
+
+-- ---- the cycle
+
+-- the entries after a cycle
+pub entries_after : (answer : (pc word : ℕ) → ℕ) (w : Core) (b : Bus) → w.window ≤ 2 ^ w.params.id_width → AreEntries w.params w.memory w.flight
+    → AreEntries w.params (spec.core_clock answer w b).memory (spec.core_clock answer w b).flight
+entries_after answer w b ids a = go ch.dispatch (dispatch_has_room w)
   where
-    go : (n : ℕ) → unwrap_or (find (λ id. not (list_any (flight.holds_id id) es)) (range_with_len 0 (n + 1))) 0 ≤ n
-    go n = ?
+    ch : Choices
+    ch = choose.choices w
+
+    m : Region
+    m = spec.memory_behind ch.retire w.memory
+
+    stores : (retire : Option Entry) → IfSome retire (IsEntry w.params w.memory) → IfSome retire (λ e. IsStore w.memory e.store)
+    stores None h = tt
+    stores (Some e) h = h.store
+
+    settled : AreEntries w.params m (spec.settled_entries ch b w.flight)
+    settled =
+        entries_in w.params w.memory m (spec.settled_entries ch b w.flight)
+        (shape_behind w.memory ch.retire (stores ch.retire (retire_is_entry w a)))
+        (settled-kept w.params w.memory ch b w.flight (choices-kept w w.mode a).execute a)
+
+    go : (t : Bool) → (t ≡ true → length w.flight < w.window)
+        → AreEntries w.params m (spec.with_dispatch (if t then Some (spec.next_entry answer w ch) else None) (spec.settled_entries ch b w.flight))
+    go false h = settled
+    go true h = All-push (IsEntry w.params m) (spec.settled_entries ch b w.flight) (spec.next_entry answer w ch) settled (next-kept answer w m ch ids (h refl))
