@@ -178,8 +178,22 @@ choices-kept w DrainBegins a =
     record { retire = k.retire; execute = k.execute }
 choices-kept w Draining a = draining-kept w (length w.flight) a
 
-pub retire_is_entry : (w : Core) → AreEntries w.params w.memory w.flight → IfSome (choose.choices w).retire (IsEntry w.params w.memory)
+retire_is_entry : (w : Core) → AreEntries w.params w.memory w.flight → IfSome (choose.choices w).retire (IsEntry w.params w.memory)
 retire_is_entry w a = (choices-kept w w.mode a).retire
+
+pub retires_write : (w : Core) → AreEntries w.params w.memory w.flight → IfSome (choose.choices w).retire (λ e. IsKeptWrite e.write)
+retires_write w a = go (choose.choices w).retire (retire_is_entry w a)
+  where
+    go : (retire : Option Entry) → IfSome retire (IsEntry w.params w.memory) → IfSome retire (λ e. IsKeptWrite e.write)
+    go None h = tt
+    go (Some e) h = h.write
+
+pub retires_store : (w : Core) → AreEntries w.params w.memory w.flight → IfSome (choose.choices w).retire (λ e. IsStore w.memory e.store)
+retires_store w a = go (choose.choices w).retire (retire_is_entry w a)
+  where
+    go : (retire : Option Entry) → IfSome retire (IsEntry w.params w.memory) → IfSome retire (λ e. IsStore w.memory e.store)
+    go None h = tt
+    go (Some e) h = h.store
 
 -- it is chosen only where there is room
 pub dispatch_has_room : (w : Core) → (choose.choices w).dispatch ≡ true → length w.flight < w.window
@@ -209,55 +223,42 @@ find-small test first zero = go (test first)
     go : (t : Bool) → unwrap_or (if t then Some first else None) 0 ≤ first + zero
     go true = omega arith
     go false = omega arith
-find-small test first (suc count) = go (test first) (find-small test (suc first) count)
+find-small test first (suc count) = go (test first) (find-small test (first + 1) count)
   where
-    go : (t : Bool) → unwrap_or (find test (range_with_len (suc first) (suc count))) 0 ≤ suc first + count
-        → unwrap_or (if t then Some first else find test (range_with_len (suc first) (suc count))) 0 ≤ first + suc count
+    go : (t : Bool) → unwrap_or (find test (range_with_len (first + 1) (suc count))) 0 ≤ first + 1 + count
+        → unwrap_or (if t then Some first else find test (range_with_len (first + 1) (suc count))) 0 ≤ first + suc count
     go true h = omega arith
     go false h = omega (arith, h)
 
-small_id : (es : List Entry) → flight.free_id es ≤ length es
+pub small_id : (es : List Entry) → flight.free_id es ≤ length es
 small_id es =
     let n = length es in
     let next : suc n ≡ n + 1 = omega arith in
-    subst (λ k. unwrap_or (find (λ id. not (list_any (flight.holds_id id) es)) (range_with_len 0 k)) 0 ≤ n) next
-    (find-small (λ id. not (list_any (flight.holds_id id) es)) 0 n)
+    let test : ℕ → Bool = λ id. not (list_any (flight.holds_id id) es) in
+    let small : unwrap_or (find test (range_with_len 0 (suc n))) 0 ≤ n = omega (arith, find-small test 0 n) in
+    subst (λ k. unwrap_or (find test (range_with_len 0 k)) 0 ≤ n) next small
 
-id-kept : (p : Params) (id : ℕ) (unknown : Bool) → id < 2 ^ p.id_width → (if unknown then id else 0) < 2 ^ p.id_width
+pub id-kept : (p : Params) (id : ℕ) (unknown : Bool) → id < 2 ^ p.id_width → (if unknown then id else 0) < 2 ^ p.id_width
 id-kept p id true l = l
 id-kept p id false l = omega (arith, l)
 
--- the next instruction is an entry where one is dispatched
-next-kept : (answer : (pc word : ℕ) → ℕ) (w : Core) (m : Region) (ch : Choices) → w.window ≤ 2 ^ w.params.id_width → length w.flight < w.window → IsEntry w.params m (spec.next_entry answer w ch)
-next-kept answer w m ch ids room =
-    let id : flight.free_id w.flight < 2 ^ w.params.id_width = omega (arith, small_id w.flight, ids, room) in
-    let word : Option ℕ = word_at (spec.memory_behind ch.retire w.memory) (spec.ahead_behind ch.cut w.ahead) in
-    record { id = id-kept w.params (flight.free_id w.flight) (flight.is_unknown_kind (flight.kind_at word)) id; write = tt; store = tt }
-
 -- ---- the cycle
 
--- the entries after a cycle
-pub entries_after : (answer : (pc word : ℕ) → ℕ) (w : Core) (b : Bus) → w.window ≤ 2 ^ w.params.id_width → AreEntries w.params w.memory w.flight
-    → AreEntries w.params (spec.core_clock answer w b).memory (spec.core_clock answer w b).flight
-entries_after answer w b ids a = go ch.dispatch (dispatch_has_room w)
-  where
-    ch : Choices
-    ch = choose.choices w
+-- the entries after all steps but the dispatch
+pub settled_after : (w : Core) (b : Bus) → AreEntries w.params w.memory w.flight
+    → AreEntries w.params (spec.memory_behind (choose.choices w).retire w.memory) (spec.settled_entries (choose.choices w) b w.flight)
+settled_after w b a =
+    let ch : Choices = choose.choices w in
+    entries_in w.params w.memory (spec.memory_behind ch.retire w.memory) (spec.settled_entries ch b w.flight)
+    (shape_behind w.memory ch.retire (retires_store w a))
+    (settled-kept w.params w.memory ch b w.flight (choices-kept w w.mode a).execute a)
 
-    m : Region
-    m = spec.memory_behind ch.retire w.memory
+-- with an instruction that is dispatched
+pub added-kept : (p : Params) (m : Region) (new : Option Entry) (es : List Entry) → AreEntries p m es → IfSome new (IsEntry p m) → AreEntries p m (spec.with_dispatch new es)
+added-kept p m None es a h = a
+added-kept p m (Some e) es a h = All-push (IsEntry p m) es e a h
 
-    stores : (retire : Option Entry) → IfSome retire (IsEntry w.params w.memory) → IfSome retire (λ e. IsStore w.memory e.store)
-    stores None h = tt
-    stores (Some e) h = h.store
-
-    settled : AreEntries w.params m (spec.settled_entries ch b w.flight)
-    settled =
-        entries_in w.params w.memory m (spec.settled_entries ch b w.flight)
-        (shape_behind w.memory ch.retire (stores ch.retire (retire_is_entry w a)))
-        (settled-kept w.params w.memory ch b w.flight (choices-kept w w.mode a).execute a)
-
-    go : (t : Bool) → (t ≡ true → length w.flight < w.window)
-        → AreEntries w.params m (spec.with_dispatch (if t then Some (spec.next_entry answer w ch) else None) (spec.settled_entries ch b w.flight))
-    go false h = settled
-    go true h = All-push (IsEntry w.params m) (spec.settled_entries ch b w.flight) (spec.next_entry answer w ch) settled (next-kept answer w m ch ids (h refl))
+-- what holds where an instruction is dispatched
+pub where_dispatched : (t : Bool) (e : Entry) (new : Option Entry) (P : Entry → Type 0) → new ≡ (if t then Some e else None) → (t ≡ true → P e) → IfSome new P
+where_dispatched true e new P is h = subst (λ o. IfSome o P) (sym is) (h refl)
+where_dispatched false e new P is h = subst (λ o. IfSome o P) (sym is) tt
