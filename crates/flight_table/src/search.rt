@@ -1,9 +1,12 @@
 //! What is found among the entries of a ring, the oldest first.
-ghost use Rattle.std.specs.Prelude.{◌≡◌, ◌<◌, ◌≤◌, ◌+◌, ◌^◌, ◌++◌, ◌∷◌, [], List, find, length, take, drop, slice_get, Some};
+ghost use Rattle.std.specs.Prelude.{◌≡◌, ◌<◌, ◌≤◌, ◌+◌, ◌-◌, ◌^◌, ◌++◌, ◌∷◌, [], List, find, length, take, drop, slice_get, Some};
 ghost use Rattle.std.specs.List.{list_any};
 ghost use Rattle.cycle_spec.specs.Flight as flight;
+ghost use Rattle.flight_table.specs.Wanted.{passes};
 
-use crate::entry::{holds_id, is_pending, is_safe, is_store, is_undecided, may_write, value_in};
+use crate::entry::{
+    Wanted, holds_id, is_pending, is_safe, is_store, is_undecided, may_write, passes, value_in,
+};
 use crate::registers::Registers;
 use circular_buffer::HeapCircularBuffer;
 use cycle_spec::{Entry, EntryKind, Operand};
@@ -20,6 +23,17 @@ pub(crate) fn entry_at(ring: &HeapCircularBuffer<Entry>, index: usize) -> &Entry
         Some(entry) => entry,
         None => unreachable!(),
     }
+}
+
+/// An entry among the `count` oldest ones.
+fn entry_within(ring: &HeapCircularBuffer<Entry>, count: usize, index: usize) -> &Entry
+    requires index { index < length ring.now.items }
+    requires count { index < count }
+    ensures rest { take (count - index) (drop index ring.now.items)
+        ≡ result.now ∷ take (count - (index + 1)) (drop (index + 1) ring.now.items) }
+    ensures older { take (index + 1) ring.now.items ≡ take index ring.now.items ++ result.now ∷ [] }
+{
+    entry_at(ring, index)
 }
 
 /// How many entries are older than the one of a number.
@@ -101,18 +115,71 @@ pub(crate) fn operand_from(file: &Registers, writer: Option<Entry>, register: u8
     }
 }
 
-/// The oldest entry that may execute.
-pub(crate) fn ready_oldest(
+/// The first of the `count` oldest entries that passes a test.
+pub(crate) fn first_among(
+    ring: &HeapCircularBuffer<Entry>,
+    count: usize,
+    wanted: Wanted,
+) -> Option<Entry>
+    ensures { result ≡ find (passes wanted) (take count ring.now.items) }
+{
+    for index in 0..ring.len() {
+        if index >= count {
+            return None;
+        }
+        let entry = entry_within(ring, count, index);
+        if passes(wanted, entry) {
+            return Some(*entry);
+        }
+    }
+    None
+}
+
+/// The first entry behind the `count` oldest ones that passes a test.
+pub(crate) fn first_behind(
+    ring: &HeapCircularBuffer<Entry>,
+    count: usize,
+    wanted: Wanted,
+) -> Option<Entry>
+    ensures { result ≡ find (passes wanted) (drop count ring.now.items) }
+{
+    for index in count..ring.len() {
+        let entry = entry_at(ring, index);
+        if passes(wanted, entry) {
+            return Some(*entry);
+        }
+    }
+    None
+}
+
+/// Whether an entry stops the machine.
+pub(crate) fn is_any_stopping(ring: &HeapCircularBuffer<Entry>) -> bool
+    ensures { result ≡ list_any flight.is_stopping ring.now.items }
+{
+    for index in 0..ring.len() {
+        if entry_at(ring, index).stop.is_some() {
+            return true;
+        }
+    }
+    false
+}
+
+/// The oldest of the `count` oldest entries that may execute.
+pub(crate) fn ready_among(
     ring: &HeapCircularBuffer<Entry>,
     file: &Registers,
     dual_write: bool,
+    count: usize,
 ) -> Option<Entry>
-    ensures { result ≡ flight.ready_oldest dual_write file.now ring.now.items }
+    ensures { result ≡ flight.ready_oldest dual_write file.now (take count ring.now.items) }
 {
     let mut older_store = false;
     let mut older_pending = false;
     for index in 0..ring.len() {
-        let entry = entry_at(ring, index);
+        if index >= count {
+            return None;
+        }
+        let entry = entry_within(ring, count, index);
         if may_execute(
             ring,
             file,
@@ -223,6 +290,20 @@ pub(crate) fn certain(ring: &HeapCircularBuffer<Entry>) -> Option<Entry>
         }
         if !is_safe(entry) {
             return youngest;
+        }
+    }
+    youngest
+}
+
+/// The youngest released use.
+pub(crate) fn youngest_released(ring: &HeapCircularBuffer<Entry>) -> Option<Entry>
+    ensures { result ≡ flight.youngest_released ring.now.items }
+{
+    let mut youngest = None;
+    for index in 0..ring.len() {
+        let entry = entry_at(ring, index);
+        if entry.released {
+            youngest = Some(*entry);
         }
     }
     youngest

@@ -1,17 +1,19 @@
 //! The table of the instructions in flight.
-ghost use Rattle.std.specs.Prelude.{◌≡◌, ◌<◌, ◌≤◌, ◌+◌, ◌^◌, ◌++◌, ◌∷◌, [], ℕ, length, take, map, find, IfOk, slice_get, Some, None, true};
+ghost use Rattle.std.specs.Prelude.{◌≡◌, ◌<◌, ◌≤◌, ◌+◌, ◌^◌, ◌++◌, ◌∷◌, [], ℕ, length, take, drop, find, map, IfOk, slice_get, Some, None, true};
 ghost use Rattle.std.specs.Option.{option_map};
+ghost use Rattle.std.specs.List.{list_any};
 ghost use Rattle.circular_buffer.specs.Buffer.{buffer};
 ghost use Rattle.cycle_spec.specs.Flight as flight;
 ghost use Rattle.flight_table.specs.Change.{changed, keeps_response};
 ghost use Rattle.flight_table.specs.Table.{writer_of, line_with};
+ghost use Rattle.flight_table.specs.Wanted.{passes};
 
 use crate::change::{Change, change_all};
-use crate::entry::stop_by;
+use crate::entry::{Wanted, stop_by};
 use crate::registers::Registers;
 use crate::search::{
-    certain, entry_at, entry_of, free_id, holder_of, operand_from, place_of, ready_oldest,
-    youngest_writer,
+    certain, entry_at, entry_of, first_among, first_behind, free_id, holder_of, is_any_stopping,
+    operand_from, place_of, ready_among, youngest_released, youngest_writer,
 };
 use crate::writers::{Writers, forget, mend, mend_younger, note};
 use circular_buffer::HeapCircularBuffer;
@@ -89,6 +91,44 @@ impl FlightTable {
         ensures { slice_get self.now.entries i ≡ Some result }
     {
         *entry_at(&self.ring, usize::from(i))
+    }
+
+    /// An entry where it lies, counted from the oldest, which is 0.
+    pub fn entry(&self, index: u8) -> &Entry
+        requires { index < length self.now.entries }
+        ensures value { slice_get self.now.entries index ≡ Some result.now }
+        ensures rest { drop index self.now.entries
+            ≡ result.now ∷ drop (index + 1) self.now.entries }
+    {
+        entry_at(&self.ring, usize::from(index))
+    }
+
+    /// The first of the `count` oldest entries that is as wanted.
+    pub fn first_among(&self, count: u8, wanted: Wanted) -> Option<Entry>
+        ensures { result ≡ find (passes wanted) (take count self.now.entries) }
+    {
+        first_among(&self.ring, usize::from(count), wanted)
+    }
+
+    /// The first entry behind the `count` oldest ones that is as wanted.
+    pub fn first_behind(&self, count: u8, wanted: Wanted) -> Option<Entry>
+        ensures { result ≡ find (passes wanted) (drop count self.now.entries) }
+    {
+        first_behind(&self.ring, usize::from(count), wanted)
+    }
+
+    /// How many entries there are up to the one of a number, with itself.
+    pub fn count_through(&self, seq: u64) -> u8
+        ensures { result ≡ flight.count_through seq self.now.entries }
+    {
+        (place_of(&self.ring, seq) + 1) as u8
+    }
+
+    /// Whether an entry stops the machine.
+    pub fn is_any_stopping(&self) -> bool
+        ensures { result ≡ list_any flight.is_stopping self.now.entries }
+    {
+        is_any_stopping(&self.ring)
     }
 
     /// The ring that the entries lie in: the oldest is its first, and the window its capacity.
@@ -177,7 +217,15 @@ impl FlightTable {
         ensures { result ≡ option_map (λ e. e.seq)
             (flight.ready_oldest self.now.dual_write file.now self.now.entries) }
     {
-        seq_of(ready_oldest(&self.ring, file, self.dual_write))
+        seq_of(self.ready_among(self.len(), file))
+    }
+
+    /// The oldest of the `count` oldest entries that may execute.
+    pub fn ready_among(&self, count: u8, file: &Registers) -> Option<Entry>
+        ensures { result ≡ flight.ready_oldest
+            self.now.dual_write file.now (take count self.now.entries) }
+    {
+        ready_among(&self.ring, file, self.dual_write, usize::from(count))
     }
 
     /// The entry of a number executed: when it retires, it does this.
@@ -243,7 +291,21 @@ impl FlightTable {
     pub fn certain_until(&self) -> Option<u64>
         ensures { result ≡ option_map (λ e. e.seq) (flight.certain self.now.entries) }
     {
-        seq_of(certain(&self.ring))
+        seq_of(self.certain())
+    }
+
+    /// The youngest use that may be released, as it is.
+    pub fn certain(&self) -> Option<Entry>
+        ensures { result ≡ flight.certain self.now.entries }
+    {
+        certain(&self.ring)
+    }
+
+    /// The youngest released use.
+    pub fn youngest_released(&self) -> Option<Entry>
+        ensures { result ≡ flight.youngest_released self.now.entries }
+    {
+        youngest_released(&self.ring)
     }
 
     /// Removes the entries younger than the one of a number.

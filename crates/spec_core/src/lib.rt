@@ -17,8 +17,14 @@
 
 mod choices;
 mod clock;
+mod commit;
 mod cpu;
+mod cut;
 mod dispatch;
+mod drive;
+mod execution;
+mod oldest;
+mod present;
 mod retire;
 mod steps;
 
