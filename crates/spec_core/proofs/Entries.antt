@@ -1,5 +1,5 @@
 -- What the cycle keeps of the entries: each holds an id of the interface, and can retire.
-use Rattle.std.proofs.Common.{◌≡◌, ◌<◌, ◌≤◌, ◌+◌, ◌^◌, ◌∷◌, ◌++◌, ◌==◌, ◌||◌, ◌&&◌, ◌∙◌, ℕ, zero, suc, Bool, true, false, not, Option, Some, None, IfSome, List, [], All, map, take, drop, length, refl, sym, ap, subst, arith, if◌then◌else◌}
+use Rattle.std.proofs.Common.{◌≡◌, ◌<◌, ◌≤◌, ◌+◌, ◌^◌, ◌∷◌, ◌++◌, ◌==◌, ◌||◌, ◌&&◌, ◌∙◌, is_some, ℕ, zero, suc, Bool, true, false, not, Option, Some, None, IfSome, List, [], All, map, take, drop, length, refl, sym, ap, subst, arith, if◌then◌else◌}
 use Rattle.std.specs.Prelude.{find, unwrap_or, nat_lt}
 use Rattle.std.specs.List.{range_with_len, list_any}
 use Rattle.std.specs.Option.{option_and_then}
@@ -178,8 +178,22 @@ choices-kept w DrainBegins a =
     record { retire = k.retire; execute = k.execute }
 choices-kept w Draining a = draining-kept w (length w.flight) a
 
-pub retire_is_entry : (w : Core) → AreEntries w.params w.memory w.flight → IfSome (choose.choices w).retire (IsEntry w.params w.memory)
+retire_is_entry : (w : Core) → AreEntries w.params w.memory w.flight → IfSome (choose.choices w).retire (IsEntry w.params w.memory)
 retire_is_entry w a = (choices-kept w w.mode a).retire
+
+pub retires_write : (w : Core) → AreEntries w.params w.memory w.flight → IfSome (choose.choices w).retire (λ e. IsKeptWrite e.write)
+retires_write w a = go (choose.choices w).retire (retire_is_entry w a)
+  where
+    go : (retire : Option Entry) → IfSome retire (IsEntry w.params w.memory) → IfSome retire (λ e. IsKeptWrite e.write)
+    go None h = tt
+    go (Some e) h = h.write
+
+pub retires_store : (w : Core) → AreEntries w.params w.memory w.flight → IfSome (choose.choices w).retire (λ e. IsStore w.memory e.store)
+retires_store w a = go (choose.choices w).retire (retire_is_entry w a)
+  where
+    go : (retire : Option Entry) → IfSome retire (IsEntry w.params w.memory) → IfSome retire (λ e. IsStore w.memory e.store)
+    go None h = tt
+    go (Some e) h = h.store
 
 -- it is chosen only where there is room
 pub dispatch_has_room : (w : Core) → (choose.choices w).dispatch ≡ true → length w.flight < w.window
@@ -203,16 +217,48 @@ dispatch_has_room w h = by_mode w.mode h
 
 -- ---- the next instruction
 
-find-small : (test : ℕ → Bool) (first count : ℕ) → unwrap_or (find test (range_with_len first count)) 0 ≤ first + count
-find-small test first zero = omega arith
-find-small test first (suc count) = go (test first) (find-small test (suc first) count)
+find-small : (test : ℕ → Bool) (first count : ℕ) → unwrap_or (find test (range_with_len first (suc count))) 0 ≤ first + count
+find-small test first zero = go (test first)
   where
-    go : (t : Bool) → unwrap_or (find test (range_with_len (suc first) count)) 0 ≤ suc first + count → unwrap_or (if t then Some first else find test (range_with_len (suc first) count)) 0 ≤ first + suc count
+    go : (t : Bool) → unwrap_or (if t then Some first else None) 0 ≤ first + zero
+    go true = omega arith
+    go false = omega arith
+find-small test first (suc count) = go (test first) (find-small test (first + 1) count)
+  where
+    go : (t : Bool) → unwrap_or (find test (range_with_len (first + 1) (suc count))) 0 ≤ first + 1 + count
+        → unwrap_or (if t then Some first else find test (range_with_len (first + 1) (suc count))) 0 ≤ first + suc count
     go true h = omega arith
     go false h = omega (arith, h)
 
-small_id : (es : List Entry) → flight.free_id es ≤ length es
-small_id es = go (length es)
-  where
-    go : (n : ℕ) → unwrap_or (find (λ id. not (list_any (flight.holds_id id) es)) (range_with_len 0 (n + 1))) 0 ≤ n
-    go n = ?
+pub small_id : (es : List Entry) → flight.free_id es ≤ length es
+small_id es =
+    let n = length es in
+    let next : suc n ≡ n + 1 = omega arith in
+    let test : ℕ → Bool = λ id. not (list_any (flight.holds_id id) es) in
+    let small : unwrap_or (find test (range_with_len 0 (suc n))) 0 ≤ n = omega (arith, find-small test 0 n) in
+    subst (λ k. unwrap_or (find test (range_with_len 0 k)) 0 ≤ n) next small
+
+pub id-kept : (p : Params) (id : ℕ) (unknown : Bool) → id < 2 ^ p.id_width → (if unknown then id else 0) < 2 ^ p.id_width
+id-kept p id true l = l
+id-kept p id false l = omega (arith, l)
+
+-- ---- the cycle
+
+-- the entries after all steps but the dispatch
+pub settled_after : (w : Core) (b : Bus) → AreEntries w.params w.memory w.flight
+    → AreEntries w.params (spec.memory_behind (choose.choices w).retire w.memory) (spec.settled_entries (choose.choices w) b w.flight)
+settled_after w b a =
+    let ch : Choices = choose.choices w in
+    entries_in w.params w.memory (spec.memory_behind ch.retire w.memory) (spec.settled_entries ch b w.flight)
+    (shape_behind w.memory ch.retire (retires_store w a))
+    (settled-kept w.params w.memory ch b w.flight (choices-kept w w.mode a).execute a)
+
+-- with an instruction that is dispatched
+pub added-kept : (p : Params) (m : Region) (new : Option Entry) (es : List Entry) → AreEntries p m es → IfSome new (IsEntry p m) → AreEntries p m (spec.with_dispatch new es)
+added-kept p m None es a h = a
+added-kept p m (Some e) es a h = All-push (IsEntry p m) es e a h
+
+-- what holds where an instruction is dispatched
+pub where_dispatched : (t : Bool) (e : Entry) (new : Option Entry) (P : Entry → Type 0) → new ≡ (if t then Some e else None) → (t ≡ true → P e) → IfSome new P
+where_dispatched true e new P is h = subst (λ o. IfSome o P) (sym is) (h refl)
+where_dispatched false e new P is h = subst (λ o. IfSome o P) (sym is) tt

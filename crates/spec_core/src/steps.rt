@@ -4,6 +4,7 @@ ghost use Rattle.xif_session.specs.Facts as session;
 ghost use Rattle.cycle_spec.specs.Core as spec;
 ghost use Rattle.cycle_spec.specs.Flight as flight;
 
+use bitflags::Flags;
 use cycle_spec::{Choices, Cut, Entry, Executed, Presented};
 use flight_table::FlightTable;
 use inorder_machine::{Stepped, unit_write};
