@@ -5,3 +5,5 @@ pub mod Entries
 pub mod Counted
 pub mod Ranges
 pub mod Widths
+pub mod Named
+pub mod Driven

@@ -1,11 +1,13 @@
 -- What a core drives fits its signals.
 use Rattle.std.specs.Prelude.{◌<◌, ◌^◌, ℕ, IfSome, slice_index}
+use Rattle.std.specs.Option.{option_or}
 use Rattle.xif_base.specs.declared.params.Params.{Params}
 use Rattle.xif_signals.specs.declared.signal.Signal.TheVariants.{IssueHartid, IssueId, IssueInstr, RegisterHartid, RegisterId, RegisterRs0, RegisterRs1, RegisterRs2, RegisterRsValid, CommitHartid, CommitId}
 use Rattle.xif_signals.specs.declared.bus.CpuOut.{CpuOut}
 use Rattle.xif_signals.specs.Signal.{width_of}
 use Rattle.cycle_spec.specs.declared.choices.Choices.{Choices}
 use Rattle.cycle_spec.specs.declared.choices.Presented.{Presented}
+use Rattle.cycle_spec.specs.declared.entry.Entry.{Entry}
 
 -- Each field is below 2 to the width of its signal, so it is 0 where the width is 0 (CV-X-IF 1.0.0,
 -- "Parameters").
@@ -33,3 +35,12 @@ pub record FitsPresented (p : Params) (x : Presented) : Type 0 where
 
 abbrev pub FitsPresent : Params → Choices → Type 0
 FitsPresent p ch = IfSome ch.present (FitsPresented p)
+
+abbrev pub HasId : Params → Entry → Type 0
+HasId p e = e.id < 2 ^ p.id_width
+
+-- it holds of the entries that the channels name
+pub record AreNamed (P : Entry → Type 0) (ch : Choices) : Type 0 where
+  pub offer : IfSome ch.offer P
+  pub present : IfSome ch.present (λ x. P x.entry)
+  pub commit : IfSome (option_or ch.kill ch.release) P

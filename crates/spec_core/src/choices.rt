@@ -2,6 +2,7 @@
 ghost use Rattle.std.specs.Prelude.{◌≡◌, if◌then◌else◌, is_some, None};
 ghost use Rattle.cycle_spec.specs.Choices as spec;
 ghost use Rattle.cycle_spec.specs.Flight.{youngest_released};
+ghost use Rattle.spec_core.specs.Drives.{FitsPresent, AreNamed, HasId};
 
 use crate::commit::{kill_among, release_in};
 use crate::cpu::Core;
@@ -28,9 +29,18 @@ const NO_CHOICES: Choices = Choices {
 impl Core {
     /// What the core does in a cycle.
     pub(crate) fn choices(&self) -> Choices
-        ensures { result ≡ spec.choices self.now }
+        ensures value { result ≡ spec.choices self.now }
+        ensures fits { FitsPresent self.now.params result }
+        ensures ids { AreNamed (HasId self.now.params) result }
     {
-        match self.mode {
+        self.choices_in(self.mode)
+    }
+
+    fn choices_in(&self, mode: Mode) -> Choices
+        ensures value { result ≡ spec.choices_in self.now mode }
+        ensures fits { FitsPresent self.now.params result }
+    {
+        match mode {
             Mode::Running => self.choices_by(stop_at(&self.table)),
             Mode::DrainBegins => self.choices_drain_begins(stay_of(&self.table)),
             Mode::Draining => self.choices_draining(self.table.len()),
@@ -38,7 +48,8 @@ impl Core {
     }
 
     fn choices_by(&self, stop: Option<StopCause>) -> Choices
-        ensures { result ≡ spec.choices_by self.now stop }
+        ensures value { result ≡ spec.choices_by self.now stop }
+        ensures fits { FitsPresent self.now.params result }
     {
         match stop {
             None => self.choices_running(),
@@ -48,7 +59,8 @@ impl Core {
 
     /// The oldest entry stops the machine: the uses in flight are killed, and nothing else is done.
     fn choices_stopping(&self, cause: StopCause) -> Choices
-        ensures { result ≡ spec.choices_stopping self.now cause }
+        ensures value { result ≡ spec.choices_stopping self.now cause }
+        ensures fits { FitsPresent self.now.params result }
     {
         Choices {
             stop: Some(cause),
@@ -59,7 +71,8 @@ impl Core {
 
     /// A cut by a store comes before one by a control transfer, and then nothing executes.
     fn choices_running(&self) -> Choices
-        ensures { result ≡ spec.choices_running self.now }
+        ensures value { result ≡ spec.choices_running self.now }
+        ensures fits { FitsPresent self.now.params result }
     {
         let retire = retirement_among(&self.table, self.table.len());
         let hit = store_cut(&self.table, retire);
@@ -74,7 +87,8 @@ impl Core {
         execute: Option<Executed>,
         cut: Option<Cut>,
     ) -> Choices
-        ensures { result ≡ spec.choices_with self.now retire execute cut }
+        ensures value { result ≡ spec.choices_with self.now retire execute cut }
+        ensures fits { FitsPresent self.now.params result }
     {
         let offer = self.table.first_behind(0, Wanted::Open);
         Choices {
@@ -111,7 +125,8 @@ impl Core {
 
     /// In a drain only the oldest entries, those that stay, retire, execute and are presented.
     fn choices_draining(&self, stay: u8) -> Choices
-        ensures { result ≡ spec.choices_draining self.now stay }
+        ensures value { result ≡ spec.choices_draining self.now stay }
+        ensures fits { FitsPresent self.now.params result }
     {
         Choices {
             retire: retirement_among(&self.table, stay),
@@ -124,7 +139,8 @@ impl Core {
     /// A drain begins: the entries up to the youngest released use stay, and the others are
     /// dropped.
     fn choices_drain_begins(&self, stay: u8) -> Choices
-        ensures { result ≡ spec.choices_drain_begins self.now stay }
+        ensures value { result ≡ spec.choices_drain_begins self.now stay }
+        ensures fits { FitsPresent self.now.params result }
     {
         Choices {
             drain: Some(stay),

@@ -1,7 +1,8 @@
 //! What the core drives in a cycle.
-ghost use Rattle.std.specs.Prelude.{◌≡◌, ◌<◌};
+ghost use Rattle.std.specs.Prelude.{◌≡◌, ◌<◌, ◌^◌};
 ghost use Rattle.std.specs.Option.{option_or};
 ghost use Rattle.cycle_spec.specs.Core as spec;
+ghost use Rattle.spec_core.specs.Drives.{FitsCpuOut};
 
 use crate::clock::RESULT_OWNER;
 use crate::cpu::Core;
@@ -11,7 +12,8 @@ use xif_signals::{CopOut, CpuIn, CpuOut};
 impl Core {
     /// What the core drives in a cycle, but for the result channel.
     pub fn drive(&self) -> CpuOut
-        ensures { result ≡ spec.core_drive self.now }
+        ensures value { result ≡ spec.core_drive self.now }
+        ensures fits { FitsCpuOut self.now.params result }
     {
         cpu_out(&self.choices())
     }
@@ -31,7 +33,8 @@ impl Core {
 
 /// The signals of what is chosen. The fields of a channel whose valid is 0 are 0.
 fn cpu_out(choices: &Choices) -> CpuOut
-    ensures { result ≡ spec.cpu_out choices.now }
+    ensures value { result ≡ spec.cpu_out choices.now }
+    ensures word { result.issue_instr < 2 ^ 32 }
 {
     let named = named_by_commit(choices);
     CpuOut {
