@@ -3,3 +3,5 @@ pub mod Shapes
 pub mod Lengths
 pub mod Entries
 pub mod Counted
+pub mod Ranges
+pub mod Widths

@@ -47,6 +47,7 @@ impl Core {
         ensures value { result ≡ spec.presentation_of self.now entry.now }
         ensures fits { FitsPresented self.now.params result }
     {
+        let params = &self.params;
         let late = self.is_late(entry);
         let low0 = self.half_of(entry, late, 0, Half::Low);
         let high0 = self.half_of(entry, late, 0, Half::High);
@@ -56,16 +57,16 @@ impl Core {
         let high2 = self.half_of(entry, late, 2, Half::High);
         Presented {
             entry: *entry,
-            rs_valid: self.half_flag(0, Half::Low, low0)
-                | self.half_flag(0, Half::High, high0)
-                | self.half_flag(1, Half::Low, low1)
-                | self.half_flag(1, Half::High, high1)
-                | self.half_flag(2, Half::Low, low2)
-                | self.half_flag(2, Half::High, high2),
+            rs_valid: half_flag(params, 0, Half::Low, low0)
+                | half_flag(params, 0, Half::High, high0)
+                | half_flag(params, 1, Half::Low, low1)
+                | half_flag(params, 1, Half::High, high1)
+                | half_flag(params, 2, Half::Low, low2)
+                | half_flag(params, 2, Half::High, high2),
             lanes: [
-                self.lane_of(0, low0, high0),
-                self.lane_of(1, low1, high1),
-                self.lane_of(2, low2, high2),
+                presented_lane(params, 0, low0, high0),
+                presented_lane(params, 1, low1, high1),
+                presented_lane(params, 2, low2, high2),
             ],
         }
     }
@@ -104,32 +105,6 @@ impl Core {
             Some(register) => self.operand(entry.seq, register),
         }
     }
-
-    /// The flag of a half is set where its register is here.
-    fn half_flag(&self, lane: u8, half: Half, value: Operand) -> u8
-        requires { flight.is_here value ≡ true → lane < self.now.params.num_rs }
-        ensures flag { result ≡ (if flight.is_here value
-            then flag_of (bit_of self.now.params lane half)
-            else 0) }
-        ensures fits { result < 2 ^ (self.now.params.num_rs + self.now.params.dual_read) }
-    {
-        match value {
-            Operand::Here(_) => flag(&self.params, lane, half),
-            Operand::NotYet => 0,
-        }
-    }
-
-    /// A lane with these halves; one that isn't here is 0.
-    fn lane_of(&self, lane: u8, low: Operand, high: Operand) -> u64
-        requires low { flight.is_here low ≡ true → lane < self.now.params.num_rs }
-        requires high { flight.is_here high ≡ true → lane < self.now.params.dual_read }
-        ensures value { result
-            ≡ lane_with (flight.value_or_zero low) (flight.value_or_zero high) }
-        ensures fits { result < 2 ^ self.now.params.rfr_width }
-        ensures none { self.now.params.num_rs ≤ lane → result ≡ 0 }
-    {
-        u64::from(value_or_zero(low)) + (u64::from(value_or_zero(high)) << 32)
-    }
 }
 
 /// Whether a half of a lane carries a register of a word: the low half that of the lane's field,
@@ -147,6 +122,21 @@ fn has_half(params: &Params, word: u32, lane: u8, half: Half) -> bool
     }
 }
 
+/// The flag of a half is set where its register is here.
+fn half_flag(params: &Params, lane: u8, half: Half, value: Operand) -> u8
+    requires params { IsInRange params.now }
+    requires lane { flight.is_here value ≡ true → lane < params.now.num_rs }
+    ensures flag { result ≡ (if flight.is_here value
+        then flag_of (bit_of params.now lane half)
+        else 0) }
+    ensures fits { result < 2 ^ (params.now.num_rs + params.now.dual_read) }
+{
+    match value {
+        Operand::Here(_) => flag(params, lane, half),
+        Operand::NotYet => 0,
+    }
+}
+
 /// The flag of a half, and 0 where the lane has no such half.
 fn flag(params: &Params, lane: u8, half: Half) -> u8
     requires params { IsInRange params.now }
@@ -154,11 +144,36 @@ fn flag(params: &Params, lane: u8, half: Half) -> u8
     ensures flag { result ≡ flag_of (bit_of params.now lane half) }
     ensures fits { result < 2 ^ (params.now.num_rs + params.now.dual_read) }
 {
+    let low = ReadFlags::even_bit(params, lane);
     match half {
-        Half::Low => 1 << ReadFlags::even_bit(params, lane),
-        Half::High => match ReadFlags::odd_bit(params, lane) {
-            None => 0,
-            Some(bit) => 1 << bit,
-        },
+        Half::Low => flag_at(low),
+        Half::High => if lane < params.dual_read { flag_at(low + 1) } else { 0 },
     }
+}
+
+fn flag_at(bit: u8) -> u8
+    requires { bit < 8 }
+    ensures { result ≡ 2 ^ bit }
+{
+    1 << bit
+}
+
+/// A lane with these halves; one that isn't here is 0. A lane that carries pairs has 64 bits.
+fn presented_lane(params: &Params, lane: u8, low: Operand, high: Operand) -> u64
+    requires params { IsInRange params.now }
+    requires low { flight.is_here low ≡ true → lane < params.now.num_rs }
+    requires high { flight.is_here high ≡ true → lane < params.now.dual_read }
+    ensures value { result ≡ lane_with (flight.value_or_zero low) (flight.value_or_zero high) }
+    ensures fits { result < 2 ^ params.now.rfr_width }
+    ensures none { params.now.num_rs ≤ lane → result ≡ 0 }
+{
+    lane_of(value_or_zero(low), value_or_zero(high))
+}
+
+fn lane_of(low: u32, high: u32) -> u64
+    ensures value { result ≡ lane_with low high }
+    ensures pair { result < 2 ^ 64 }
+    ensures single { high ≡ 0 → result < 2 ^ 32 }
+{
+    u64::from(low) + (u64::from(high) << 32)
 }
