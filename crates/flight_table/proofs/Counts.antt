@@ -1,8 +1,8 @@
 -- How many entries there are up to one of a place.
-use Rattle.std.proofs.Common.{◌≡◌, ◌<◌, ◌≤◌, ◌+◌, ℕ, zero, suc, Bool, true, if◌then◌else◌, Some, List, [], ◌∷◌, length, take, slice_get, refl, ap, ◌∙◌, arith}
+use Rattle.std.proofs.Common.{◌≡◌, ◌≤◌, ◌+◌, ℕ, zero, suc, if◌then◌else◌, Some, List, [], ◌∷◌, length, slice_get, ap, ◌∙◌, arith}
 use Rattle.std.proofs.lemmas.Bool.{eq-eqb, ne_eqb}
 use Rattle.cycle_spec.specs.declared.entry.Entry.{Entry}
-use Rattle.cycle_spec.specs.Flight.{has_seq, older_than, count_through}
+use Rattle.cycle_spec.specs.Flight.{older_than, count_through}
 use Rattle.flight_table.specs.Index.{Rises}
 
 some_is : (a b : Entry) → Some a ≡ Some b → a ≡ b

@@ -182,8 +182,31 @@ pub(crate) fn value_in(write: Write, register: u8) -> u32
     }
 }
 
+/// An entry as it is dispatched. The word is 0 where there is none, and so is the id but for an
+/// unknown word.
+pub fn new_entry(seq: u64, pc: u32, kind: EntryKind, word: u32, predicted: u32, id: u16) -> Entry
+    ensures { result ≡ flight.new_entry seq pc kind word predicted id }
+{
+    Entry {
+        seq,
+        pc,
+        word,
+        kind,
+        predicted,
+        id,
+        stop: stop_by(kind),
+        done: false,
+        write: Write::None,
+        store: None,
+        next: pc.wrapping_add(4),
+        response: None,
+        operands_sent: false,
+        released: false,
+    }
+}
+
 /// What stops the machine from the dispatch on.
-pub(crate) fn stop_by(kind: EntryKind) -> Option<StopCause>
+fn stop_by(kind: EntryKind) -> Option<StopCause>
     ensures { result ≡ flight.stop_by kind }
 {
     match kind {

@@ -18,6 +18,6 @@ mod table;
 mod writers;
 
 pub use cycle_spec::{Entry, EntryKind, Operand};
-pub use entry::Wanted;
+pub use entry::{Wanted, new_entry};
 pub use registers::Registers;
 pub use table::FlightTable;

@@ -9,7 +9,7 @@ ghost use Rattle.flight_table.specs.Table.{writer_of, line_with};
 ghost use Rattle.flight_table.specs.Wanted.{passes};
 
 use crate::change::{Change, change_all};
-use crate::entry::{Wanted, stop_by};
+use crate::entry::{Wanted, new_entry};
 use crate::registers::Registers;
 use crate::search::{
     certain, entry_at, entry_of, first_among, first_behind, free_id, holder_of, is_any_stopping,
@@ -162,22 +162,7 @@ impl FlightTable {
         } }
     {
         let seq = self.next_seq;
-        self.add(Entry {
-            seq,
-            pc,
-            word,
-            kind,
-            predicted,
-            id,
-            stop: stop_by(kind),
-            done: false,
-            write: Write::None,
-            store: None,
-            next: pc.wrapping_add(4),
-            response: None,
-            operands_sent: false,
-            released: false,
-        });
+        self.add(new_entry(seq, pc, kind, word, predicted, id));
         seq
     }
 

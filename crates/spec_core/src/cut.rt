@@ -2,15 +2,13 @@
 ghost use Rattle.std.specs.Prelude.{◌≡◌, ◌<◌, ◌^◌, drop};
 ghost use Rattle.std.specs.Option.{option_or};
 ghost use Rattle.std.specs.List.{list_any};
-ghost use Rattle.rv32_table.specs.declared.instr.Kind.{Kind};
 ghost use Rattle.cycle_spec.specs.Choices as spec;
-ghost use Rattle.cycle_spec.specs.Flight as flight;
 
+use crate::control::is_control;
 use crate::cpu::Core;
-use cycle_spec::{Cut, Entry, EntryKind, Executed};
+use cycle_spec::{Cut, Entry, Executed};
 use flight_table::FlightTable;
 use inorder_machine::{Stepped, Store};
-use rv32_table::Kind;
 
 /// How many addresses there are.
 const ADDRESSES: u64 = 1 << 32;
@@ -91,7 +89,7 @@ fn transfer_cut(table: &FlightTable, entry: &Entry, outcome: &Stepped) -> Option
     ensures { result ≡ spec.transfer_cut entry.now outcome.now table.now.entries }
 {
     match outcome {
-        Stepped::Retired(line) => if is_control(entry) && line.next != entry.predicted {
+        Stepped::Retired(line) => if is_control(entry.kind) && line.next != entry.predicted {
             Some(Cut {
                 keep: table.count_through(entry.seq),
                 target: line.next,
@@ -100,25 +98,6 @@ fn transfer_cut(table: &FlightTable, entry: &Entry, outcome: &Stepped) -> Option
             None
         },
         Stepped::Stop(_) => None,
-    }
-}
-
-/// Whether an entry jumps or branches.
-pub fn is_control(entry: &Entry) -> bool
-    ensures { result ≡ flight.is_control entry.now }
-{
-    match entry.kind {
-        EntryKind::Local(instr) => is_control_kind(instr.kind()),
-        EntryKind::Unknown | EntryKind::Nowhere => false,
-    }
-}
-
-fn is_control_kind(kind: Kind) -> bool
-    ensures { result ≡ flight.is_control_row kind }
-{
-    match kind {
-        Kind::Control => true,
-        _ => false,
     }
 }
 

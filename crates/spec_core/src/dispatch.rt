@@ -5,11 +5,10 @@ ghost use Rattle.xif_image.specs.Region.{word_at};
 ghost use Rattle.cycle_spec.specs.Core as spec;
 ghost use Rattle.cycle_spec.specs.Flight as flight;
 
-use crate::retire::is_control;
+use crate::control::is_control;
 use cycle_spec::{Cut, Dispatch, Entry, EntryKind};
-use flight_table::FlightTable;
-use inorder_machine::{StopCause, Write};
-use rv32_table::{Kind, Row, decode};
+use flight_table::{FlightTable, new_entry};
+use rv32_table::decode;
 use xif_drive::Predictor;
 use xif_image::Memory;
 
@@ -56,22 +55,8 @@ fn entry_at<P: Predictor>(seq: u64, id: u16, pc: u32, word: Option<u32>, predict
 {
     let kind = kind_at(word);
     let bits = word.unwrap_or(0);
-    Entry {
-        seq,
-        pc,
-        word: bits,
-        kind,
-        predicted: predicted_at(predictor, pc, bits, kind),
-        id: id_by(kind, id),
-        stop: stop_by(kind),
-        done: false,
-        write: Write::None,
-        store: None,
-        next: pc.wrapping_add(4),
-        response: None,
-        operands_sent: false,
-        released: false,
-    }
+    let predicted = predicted_at(predictor, pc, bits, kind);
+    new_entry(seq, pc, kind, bits, predicted, id_by(kind, id))
 }
 
 fn kind_at(word: Option<u32>) -> EntryKind
@@ -104,23 +89,6 @@ fn id_by(kind: EntryKind, id: u16) -> u16
     match kind {
         EntryKind::Unknown => id,
         EntryKind::Local(_) | EntryKind::Nowhere => 0,
-    }
-}
-
-/// What stops the machine from the dispatch on.
-fn stop_by(kind: EntryKind) -> Option<StopCause>
-    ensures { result ≡ flight.stop_by kind }
-{
-    match kind {
-        EntryKind::Local(instr) => match instr.kind() {
-            Kind::Stop => Some(match instr.row {
-                Row::Ebreak => StopCause::Ebreak,
-                _ => StopCause::Ecall,
-            }),
-            _ => None,
-        },
-        EntryKind::Unknown => None,
-        EntryKind::Nowhere => Some(StopCause::FetchOutside),
     }
 }
 

@@ -18,6 +18,7 @@
 mod choices;
 mod clock;
 mod commit;
+mod control;
 mod cpu;
 mod cut;
 mod dispatch;

@@ -147,7 +147,11 @@ fn flag(params: &Params, lane: u8, half: Half) -> u8
     let low = ReadFlags::even_bit(params, lane);
     match half {
         Half::Low => flag_at(low),
-        Half::High => if lane < params.dual_read { flag_at(low + 1) } else { 0 },
+        Half::High => if lane < params.dual_read {
+            flag_at(low + 1)
+        } else {
+            0
+        },
     }
 }
 

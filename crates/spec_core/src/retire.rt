@@ -4,13 +4,12 @@ ghost use Rattle.std.specs.Option.{option_map};
 ghost use Rattle.inorder_machine.specs.Machine as machine;
 ghost use Rattle.inorder_machine.specs.Lines.{IsStore};
 ghost use Rattle.cycle_spec.specs.Core as spec;
-ghost use Rattle.cycle_spec.specs.Flight as flight;
 ghost use Rattle.spec_core.specs.Fits.{IsKeptWrite};
 
-use cycle_spec::{Entry, EntryKind};
+use crate::control::is_control;
+use cycle_spec::Entry;
 use flight_table::Registers;
 use inorder_machine::{Retire, Store, Write};
-use rv32_table::Kind;
 use xif_drive::Predictor;
 use xif_image::Memory;
 
@@ -76,25 +75,6 @@ pub(crate) fn learn<P: Predictor>(predictor: &mut P, retire: Option<Entry>)
         if is_control(entry.kind) {
             predictor.learn(entry.pc, entry.word, entry.next);
         }
-    }
-}
-
-/// Whether an instruction is a control transfer.
-pub(crate) fn is_control(kind: EntryKind) -> bool
-    ensures { result ≡ flight.is_row flight.is_control_row kind }
-{
-    match kind {
-        EntryKind::Local(instr) => is_control_row(instr.kind()),
-        EntryKind::Unknown | EntryKind::Nowhere => false,
-    }
-}
-
-fn is_control_row(kind: Kind) -> bool
-    ensures { result ≡ flight.is_control_row kind }
-{
-    match kind {
-        Kind::Control => true,
-        _ => false,
     }
 }
 

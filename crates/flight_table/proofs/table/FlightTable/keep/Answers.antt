@@ -1,4 +1,4 @@
-use Rattle.std.proofs.Common.{◌≡◌, ◌-◌, ◌+◌, Some, slice_get, take, ap, subst, ◌∙◌, arith}
+use Rattle.std.proofs.Common.{◌≡◌, ◌+◌, take, ap, subst, ◌∙◌, arith}
 use Rattle.cycle_spec.specs.Flight.{count_through}
 use Rattle.flight_table.specs.Table.{Table}
 use Rattle.flight_table.proofs.Counts.{counted_at}
