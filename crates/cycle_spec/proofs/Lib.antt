@@ -1,2 +1,3 @@
 pub mod Counted
 mod Examples
+pub mod Fitting
