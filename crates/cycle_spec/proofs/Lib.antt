@@ -1,3 +1,2 @@
 pub mod Counted
 mod Examples
-pub mod Fitting

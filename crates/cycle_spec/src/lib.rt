@@ -11,7 +11,7 @@
 //! - `Choices`: what the core does in a cycle, all of it chosen from the state at its start;
 //! - `Core`: what the core drives, and its state after a cycle, step by step;
 //! - `Engine`: what the coprocessors drive, and their state after a cycle, step by step;
-//! - `Cycle`: both on one bus (`Widths`: what each side drives is below the widths of the signals);
+//! - `Cycle`: both on one bus;
 //! - `Run`: cycles up to a stop, or up to a budget and then until nothing is in flight.
 //!
 //! A cycle is: the core drives its signals (`core_drive`), the engine answers in the same cycle
