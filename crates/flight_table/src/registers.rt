@@ -26,6 +26,15 @@ impl Registers {
         Registers { values: [0; 32] }
     }
 
+    /// A copy, which does not change with these registers.
+    pub fn copy(&self) -> Registers
+        ensures { result ≡ self.now }
+    {
+        Registers {
+            values: self.values,
+        }
+    }
+
     /// The value of the register x`i`.
     pub fn get(&self, i: u8) -> u32
         requires { i < 32 }
