@@ -17,3 +17,5 @@ mod images;
 mod machine;
 #[cfg(test)]
 mod rv32;
+#[cfg(test)]
+mod simulate;
