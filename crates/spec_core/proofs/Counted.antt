@@ -2,7 +2,6 @@
 use Rattle.std.proofs.Common.{◌≤◌, ◌<◌, ◌+◌, ◌^◌, ℕ, Bool, true, false, Option, Some, None, IfSome, arith, if◌then◌else◌}
 use Rattle.xif_signals.specs.declared.bus.Bus.{Bus}
 use Rattle.cycle_spec.specs.declared.choices.Choices.{Choices}
-use Rattle.cycle_spec.specs.declared.entry.Entry.{Entry}
 use Rattle.cycle_spec.specs.declared.turn.Transaction.{Transaction}
 use Rattle.cycle_spec.specs.declared.turn.Transactions.{Transactions}
 use Rattle.cycle_spec.specs.State.{Core}

@@ -1,17 +1,15 @@
 -- What the cycle keeps of the entries: each holds an id of the interface, and can retire.
-use Rattle.std.proofs.Common.{◌≡◌, ◌<◌, ◌≤◌, ◌+◌, ◌^◌, ◌∷◌, ◌++◌, ◌==◌, ◌||◌, ◌&&◌, ◌∙◌, is_some, ℕ, zero, suc, Bool, true, false, not, Option, Some, None, IfSome, List, [], All, map, take, drop, length, refl, sym, ap, subst, arith, if◌then◌else◌}
+use Rattle.std.proofs.Common.{◌≡◌, ◌<◌, ◌≤◌, ◌+◌, ◌^◌, ◌∷◌, ◌&&◌, is_some, ℕ, zero, suc, Bool, true, false, not, Option, Some, None, IfSome, List, [], map, take, drop, length, refl, sym, subst, arith, if◌then◌else◌}
 use Rattle.std.specs.Prelude.{find, unwrap_or, nat_lt}
 use Rattle.std.specs.List.{range_with_len, list_any}
 use Rattle.std.specs.Option.{option_and_then}
 use Rattle.std.proofs.lemmas.Bool.Decides.{nat_tests}
 use Rattle.std.proofs.lemmas.List.Elements.{All-map, All-weaker, All-take, All-drop, All-push, All-head}
-use Rattle.rv32_table.specs.declared.instr.Instr.{Instr}
-use Rattle.rv32_table.specs.Instr.{rd_field, sources_of}
+use Rattle.rv32_table.specs.Instr.{rd_field}
 use Rattle.xif_base.specs.declared.params.Params.{Params}
-use Rattle.xif_image.specs.Region.{Region, word_at}
+use Rattle.xif_image.specs.Region.{Region}
 use Rattle.xif_session.specs.Facts.{is_issued, is_given, is_taken}
 use Rattle.xif_signals.specs.declared.bus.Bus.{Bus}
-use Rattle.inorder_machine.specs.declared.line.Retire.{Retire}
 use Rattle.inorder_machine.specs.declared.line.Stepped.{Stepped}
 use Rattle.inorder_machine.specs.declared.line.Stepped.TheVariants.{Retired, Stop}
 use Rattle.inorder_machine.specs.declared.line.Store.{Store}

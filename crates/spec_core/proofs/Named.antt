@@ -1,11 +1,10 @@
 -- The words that the interface names are entries: each id that holds of all of these holds of them.
-use Rattle.std.proofs.Common.{◌≡◌, ◌<◌, ◌+◌, ◌^◌, ℕ, Bool, true, false, Option, Some, None, IfSome, is_some, List, [], ◌∷◌, All, take, drop, length, if◌then◌else◌, cond}
+use Rattle.std.proofs.Common.{ℕ, Bool, true, false, Option, Some, None, IfSome, List, [], ◌∷◌, All, take, drop, length, if◌then◌else◌, cond}
 use Rattle.std.specs.Prelude.{find, filter}
 use Rattle.std.specs.Option.{option_or, option_and_then, option_map}
 use Rattle.std.specs.List.{last_or}
 use Rattle.std.proofs.lemmas.List.Elements.{All-filter, All-drop, All-take, All-head, All-tail, All-cons, All-nil}
 use Rattle.inorder_machine.specs.declared.stop.StopCause.{StopCause}
-use Rattle.cycle_spec.specs.declared.choices.Choices.{Choices}
 use Rattle.cycle_spec.specs.declared.choices.Executed.{Executed}
 use Rattle.cycle_spec.specs.declared.choices.Mode.{Mode}
 use Rattle.cycle_spec.specs.declared.choices.Mode.TheVariants.{Running, DrainBegins, Draining}

@@ -1,6 +1,6 @@
 -- A store changes neither the base nor the number of bytes of a memory, so that what can be stored
 -- stays the same.
-use Rattle.std.proofs.Common.{◌≡◌, ◌+◌, ◌∙◌, ◌&&◌, ℕ, Option, Some, None, List, All, length, nat_le, refl, sym, ap₂, if◌then◌else◌}
+use Rattle.std.proofs.Common.{◌≡◌, ◌+◌, ◌∙◌, ◌&&◌, ℕ, Option, Some, None, List, length, nat_le, refl, ap₂, if◌then◌else◌}
 use Rattle.std.proofs.lemmas.List.Elements.{All-weaker}
 use Rattle.xif_base.specs.declared.params.Params.{Params}
 use Rattle.xif_image.specs.declared.memory.MemFault.TheVariants.{Outside}

@@ -1,5 +1,5 @@
 -- What a core drives fits its signals.
-use Rattle.std.specs.Prelude.{◌<◌, ◌^◌, ℕ, IfSome, slice_index}
+use Rattle.std.specs.Prelude.{◌<◌, ◌^◌, IfSome, slice_index}
 use Rattle.std.specs.Option.{option_or}
 use Rattle.xif_base.specs.declared.params.Params.{Params}
 use Rattle.xif_signals.specs.declared.signal.Signal.TheVariants.{IssueHartid, IssueId, IssueInstr, RegisterHartid, RegisterId, RegisterRs0, RegisterRs1, RegisterRs2, RegisterRsValid, CommitHartid, CommitId}

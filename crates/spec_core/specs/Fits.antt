@@ -1,6 +1,6 @@
 -- Internal: what holds of the state of a core, and how far its counts may go. These are conditions
 -- of the code; nothing here has to be believed.
-use Rattle.std.specs.Prelude.{◌≡◌, ◌<◌, ◌≤◌, ◌^◌, ℕ, Option, List, All, IfSome}
+use Rattle.std.specs.Prelude.{◌≡◌, ◌<◌, ◌≤◌, ◌^◌, ℕ, List, All}
 use Rattle.xif_base.specs.declared.params.Params.{Params}
 use Rattle.xif_base.specs.Params.{IsInRange}
 use Rattle.xif_image.specs.Region.{Region}

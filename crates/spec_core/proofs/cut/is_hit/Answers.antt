@@ -1,4 +1,4 @@
-use Rattle.std.proofs.Common.{◌≡◌, ◌<◌, ◌+◌, ℕ, Bool, true, false, sym, ap, ◌∙◌, arith}
+use Rattle.std.proofs.Common.{◌≡◌, ◌<◌, ◌+◌, true, false, sym, ap, ◌∙◌, arith}
 use Rattle.cycle_spec.specs.Choices.{is_in_word}
 use Rattle.spec_core.proofs.Ranges.{any_later, any_here}
 use Rattle.spec_core.proofs.cut.is_hit.Goals as goal

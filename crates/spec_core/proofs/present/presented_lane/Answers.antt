@@ -1,4 +1,4 @@
-use Rattle.std.proofs.Common.{◌≡◌, ◌≤◌, ◌+◌, ◌*◌, ◌^◌, ◌∙◌, ap, subst, arith, sym}
+use Rattle.std.proofs.Common.{◌≡◌, ◌∙◌, arith}
 use Rattle.cycle_spec.specs.Flight.{value_or_zero}
 use Rattle.spec_core.proofs.Widths.{port, unread}
 use Rattle.spec_core.proofs.present.presented_lane.Goals as goal

@@ -1,13 +1,12 @@
-use Rattle.std.proofs.Common.{rules, ◌≡◌, ◌<◌, ◌≤◌, ◌∙◌, ◌^◌, ℕ, Bool, true, false, Option, Some, None, IfSome, List, length, refl, sym, ap, subst, arith, if◌then◌else◌}
+use Rattle.std.proofs.Common.{◌≡◌, ◌<◌, ◌≤◌, ◌∙◌, ◌^◌, true, Option, IfSome, length, sym, ap, subst, arith}
 use Rattle.inorder_machine.specs.Lines.{IsStore}
 use Rattle.xif_image.specs.Region.{Region}
 use Rattle.cycle_spec.specs.declared.choices.Choices.{Choices}
 use Rattle.cycle_spec.specs.declared.entry.Entry.{Entry}
 use Rattle.cycle_spec.specs.State.{Core}
-use Rattle.cycle_spec.specs.Choices as choose
 use Rattle.cycle_spec.specs.Core as spec
 use Rattle.flight_table.specs.Table.{Table}
-use Rattle.spec_core.specs.Fits.{IsKeptWrite, IsEntry, AreEntries, IsSetUp, IsTable}
+use Rattle.spec_core.specs.Fits.{IsKeptWrite, IsEntry, AreEntries}
 use Rattle.spec_core.proofs.Lengths.{settled-length}
 use Rattle.spec_core.proofs.Entries.{retires_write, retires_store, dispatch_has_room, settled_after, added-kept, small_id, id-kept, where_dispatched}
 use Rattle.spec_core.proofs.cpu.Core.clock.Goals as goal
