@@ -1,2 +1,6 @@
 pub mod Lists
 pub mod Walks
+pub mod Sources
+pub mod Rows
+pub mod Writes
+pub mod Hits
