@@ -4,3 +4,5 @@ pub mod Sources
 pub mod Rows
 pub mod Writes
 pub mod Hits
+pub mod Lanes
+pub mod Outcomes
