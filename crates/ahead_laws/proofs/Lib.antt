@@ -6,3 +6,5 @@ pub mod Writes
 pub mod Hits
 pub mod Lanes
 pub mod Outcomes
+pub mod Memories
+pub mod Views
