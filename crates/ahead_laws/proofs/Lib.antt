@@ -8,3 +8,10 @@ pub mod Lanes
 pub mod Outcomes
 pub mod Memories
 pub mod Views
+pub mod Uses
+pub mod Agreeing
+pub mod Safe
+pub mod Keeping
+pub mod Releasing
+pub mod Retiring
+pub mod Refining
