@@ -17,7 +17,7 @@ use Rattle.cycle_spec.specs.declared.entry.Entry.{Entry}
 use Rattle.cycle_spec.specs.declared.entry.EntryKind.{EntryKind}
 use Rattle.cycle_spec.specs.declared.entry.EntryKind.TheVariants.{Local, Unknown, Nowhere}
 use Rattle.cycle_spec.specs.declared.entry.Operand.TheVariants.{Here}
-use Rattle.cycle_spec.specs.Flight.{is_unknown_kind, is_unknown, is_control, is_row, is_control_row, is_open, is_safe, source_behind}
+use Rattle.cycle_spec.specs.Flight.{is_unknown_kind, is_unknown, is_control, is_row, is_control_row, is_open, is_safe, operand_behind, source_behind}
 use Rattle.ahead_spec.specs.Walk.{Item, entries, along, Walked, leads_to, IsPath, path_end}
 use Rattle.ahead_spec.specs.Operands.{word_hit, response_of, halves_read, half_in, half_behind, CarriesOperands}
 use Rattle.ahead_spec.specs.World.{World, Spot, whole, with_item, with_flight, with_entry, executed_with, halted_with, answered_with, sent_of, finished_with, result_write, new_item, Dispatches, Executes, Halts, Answers, Sends, Finishes, Drops, happens}
@@ -29,7 +29,7 @@ use Rattle.ahead_laws.proofs.Walks.{SamePlace, walked-front, walked-at, walked-r
 use Rattle.ahead_laws.proofs.Rows.{never-stops}
 use Rattle.ahead_laws.proofs.Sources.{if_read, unread, first_source, second_source}
 use Rattle.ahead_laws.proofs.Memories.{along-bounds, along-memory, executed-memory}
-use Rattle.ahead_laws.proofs.Views.{source-value, half-value}
+use Rattle.ahead_laws.proofs.Views.{operand-value, source-value, half-value}
 use Rattle.ahead_laws.proofs.Uses.{IsIdle, units_at-front, units_at-replaced}
 use Rattle.ahead_laws.proofs.Agreeing.{open-unknown, agrees-dispatched, agrees-executed, agrees-halted, agrees-answered, agrees-sent, accepted-taken, agrees-finished}
 use Rattle.ahead_laws.proofs.Safe.{safe-same, safe-word, open-unsafe, safe-executed, safe-plain}
@@ -247,3 +247,10 @@ keeps-drop x start w kept gone m r =
     (walked-front x (Agrees x r.now.memory) kept gone r.now agree)
     (pairs-front InOrder kept gone (subst (Pairs InOrder) m.here r.in_order))
     (sym (ap (units_at x r.now) m.here ∙ units_at-front x r.now.memory kept gone r.now agree idle))
+
+-- ---- what an instruction finds here
+
+pub operand-there : (x : Extension) (start : State) (w : World) (p : Spot) (r : RunsAhead x start w) → w.flight ≡ whole p → IsInRange x.params → (register value : ℕ)
+    → operand_behind x.params.dual_write w.registers (entries p.older) register ≡ Here value → register_of (along x r.now p.older) register ≡ value
+operand-there x start w p r h range register value e =
+    operand-value x r.now.memory register value p.older r.now range r.count (agree-older x start w p r h) (ap (λ q. operand_behind x.params.dual_write q (entries p.older) register) (sym r.registers_are) ∙ e)

@@ -15,3 +15,5 @@ pub mod Keeping
 pub mod Releasing
 pub mod Retiring
 pub mod Refining
+pub mod Fetches
+pub mod Halves
