@@ -17,3 +17,4 @@ pub mod Retiring
 pub mod Refining
 pub mod Fetches
 pub mod Halves
+pub mod EntryChanges

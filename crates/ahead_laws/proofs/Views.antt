@@ -16,7 +16,7 @@ use Rattle.inorder_machine.specs.declared.line.Stepped.TheVariants.{Retired, Sto
 use Rattle.inorder_machine.specs.declared.line.Write.{Write}
 use Rattle.inorder_machine.specs.declared.units.Half.{Half}
 use Rattle.inorder_machine.specs.Units.{has_flag, unit_write, half_register}
-use Rattle.inorder_machine.specs.Machine.{Extension, State, register_in, register_of, registers_after, state_after}
+use Rattle.inorder_machine.specs.Machine.{Extension, State, register_in, register_of, registers_after, taken, state_after}
 use Rattle.xif_session.specs.declared.fact.Response.{Response}
 use Rattle.xif_session.specs.Facts.{is_accepted}
 use Rattle.cycle_spec.specs.declared.entry.Entry.{Entry}
@@ -144,6 +144,25 @@ step-shows : (x : Extension) (memory : Region) (s : State) (y : Item) (r : ℕ) 
     → ShowsBehind (may_write x.params.dual_write r y.entry) y.entry.done r y.entry.write s (stepped x s y.entry.pc y.entry.kind y.entry.word)
 unfolding stepped
 step-shows x memory s y r range z n g = step-shows_by x memory s y r (outcome x s y.entry.pc y.entry.kind y.entry.word) range z n g refl
+
+-- what a line writes is within what its entry may write
+pub line-stays : (x : Extension) (memory : Region) (s : State) (y : Item) (l : Retire) (r : ℕ) → IsInRange x.params → length s.registers ≡ 32 → Agrees x memory s y → outcome x s y.entry.pc y.entry.kind y.entry.word ≡ Retired l
+    → may_write x.params.dual_write r y.entry ≡ false → register_of (taken x s l) r ≡ register_of s r
+line-stays x memory s y l r range n g h m = go (r == 0) refl
+  where
+    go : (b : Bool) → (r == 0) ≡ b → register_of (taken x s l) r ≡ register_of s r
+    go true e = let same : r ≡ 0 = eqb-true r 0 e in ap (register_of (taken x s l)) same ∙ sym (ap (register_of s) same)
+    go false e = (step-shows_by x memory s y r (Retired l) range e n g h).stays m
+
+nonzero-test : (b may : Bool) → (not b && may) ≡ true → b ≡ false
+nonzero-test true may h = absurd cc
+nonzero-test false may h = refl
+
+-- and of one that is done it is what its entry says
+pub line-value : (x : Extension) (memory : Region) (s : State) (y : Item) (l : Retire) (r : ℕ) → IsInRange x.params → length s.registers ≡ 32 → Agrees x memory s y → outcome x s y.entry.pc y.entry.kind y.entry.word ≡ Retired l
+    → y.entry.done ≡ true → may_write x.params.dual_write r y.entry ≡ true → register_of (taken x s l) r ≡ value_in y.entry.write r
+line-value x memory s y l r range n g h d m =
+    (step-shows_by x memory s y r (Retired l) range (nonzero-test (r == 0) (may_write_kind x.params.dual_write y.entry.kind y.entry r) m) n g h).shows d m
 
 count_by : (x : Extension) (s : State) (o : Stepped) → length s.registers ≡ 32 → length (state_after x s o).registers ≡ 32
 count_by x s (Stop c) n = n
