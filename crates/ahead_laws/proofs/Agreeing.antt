@@ -1,7 +1,7 @@
 -- What each event makes of its instruction agrees with the in-order machine.
-use Rattle.std.proofs.Common.{◌≡◌, ◌⊎◌, ◌&&◌, ◌||◌, ℕ, Bool, true, false, not, Option, Some, None, is_some, is_none, IsSome, List, refl, sym, ap, subst, ◌∙◌, inl, inr, if◌then◌else◌}
+use Rattle.std.proofs.Common.{◌≡◌, ◌||◌, ℕ, Bool, true, false, Option, Some, None, is_some, is_none, List, refl, sym, ap, subst, ◌∙◌, if◌then◌else◌}
 use Rattle.rv32_table.specs.declared.instr.Instr.{Instr}
-use Rattle.rv32_table.specs.Instr.{decoded, kind_of, rd_field}
+use Rattle.rv32_table.specs.Instr.{decoded}
 use Rattle.xif_drive.specs.Predictors.{following}
 use Rattle.xif_image.specs.Region.{Region, word_at}
 use Rattle.coproc_config.specs.declared.accept.Hit.{Hit}
@@ -10,23 +10,22 @@ use Rattle.inorder_machine.specs.declared.line.Store.{Store}
 use Rattle.inorder_machine.specs.declared.line.Stepped.TheVariants.{Retired, Stop}
 use Rattle.inorder_machine.specs.declared.stop.StopCause.{StopCause}
 use Rattle.inorder_machine.specs.declared.stop.StopCause.TheVariants.{Illegal, FetchOutside}
-use Rattle.inorder_machine.specs.Execute.{cause_of, executed}
+use Rattle.inorder_machine.specs.Execute.{executed}
 use Rattle.inorder_machine.specs.Machine.{Extension, State, register_of}
 use Rattle.xif_session.specs.declared.fact.Response.{Response}
 use Rattle.xif_session.specs.Facts.{is_accepted}
 use Rattle.cycle_spec.specs.declared.entry.Entry.{Entry}
 use Rattle.cycle_spec.specs.declared.entry.EntryKind.{EntryKind}
-use Rattle.cycle_spec.specs.declared.entry.EntryKind.TheVariants.{Local, Unknown, Nowhere}
-use Rattle.cycle_spec.specs.Flight.{is_unknown_kind, is_unknown, is_open, stop_row, stop_by, kind_by, kind_at}
-use Rattle.cycle_spec.specs.Core.{word_or_zero, line_of, entry_at, predicted_at}
+use Rattle.cycle_spec.specs.declared.entry.EntryKind.TheVariants.{Local, Unknown}
+use Rattle.cycle_spec.specs.Flight.{is_unknown_kind, is_unknown, is_open, stop_by, kind_by, kind_at}
+use Rattle.cycle_spec.specs.Core.{word_or_zero, line_of, entry_at}
 use Rattle.ahead_spec.specs.Walk.{Item, outcome}
-use Rattle.ahead_spec.specs.Operands.{word_hit, response_of, CarriesOperands, applied_to, unit_step}
-use Rattle.ahead_spec.specs.World.{executed_with, halted_with, answered_with, sent_of, released_of, finished_with, with_entry, released_item, result_write}
+use Rattle.ahead_spec.specs.Operands.{word_hit, response_of, CarriesOperands, unit_step}
+use Rattle.ahead_spec.specs.World.{executed_with, halted_with, answered_with, sent_of, finished_with, with_entry, released_item, result_write}
 use Rattle.ahead_spec.specs.Invariant.{Agrees}
 use Rattle.ahead_laws.proofs.Lists.{not_both, and_left, and_right, not_some}
 use Rattle.ahead_laws.proofs.Rows.{always-stops}
-use Rattle.ahead_laws.proofs.Lanes.{carried-same}
-use Rattle.ahead_laws.proofs.Outcomes.{unknown-kind, outcome-local, outcome-nowhere, outcome-place, outcome-taken, outcome-refused, use_line, entry-unknown, entry-outcome-local}
+use Rattle.ahead_laws.proofs.Outcomes.{unknown-kind, outcome-local, outcome-nowhere, outcome-place, outcome-taken, outcome-refused, entry-unknown, entry-outcome-local}
 
 false_true : false ≡ true → ⊥
 false_true h = cc

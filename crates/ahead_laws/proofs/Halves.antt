@@ -1,5 +1,5 @@
 -- The core presents each half that a word reads.
-use Rattle.std.proofs.Common.{◌≡◌, ◌<◌, ◌+◌, ◌/◌, ◌%◌, ◌^◌, ◌==◌, ◌&&◌, ℕ, Bool, true, false, nat_lt, Option, Some, None, IsSomeAnd, refl, sym, ap, ◌∙◌, if◌then◌else◌}
+use Rattle.std.proofs.Common.{◌≡◌, ◌+◌, ◌/◌, ◌%◌, ◌^◌, ◌==◌, ◌&&◌, ℕ, Bool, true, false, nat_lt, Some, None, IsSomeAnd, refl, ap, ◌∙◌, if◌then◌else◌}
 use Rattle.std.specs.Option.{option_map_or}
 use Rattle.std.proofs.lemmas.Bool.{eqb-true, eq-eqb}
 use Rattle.xif_base.specs.declared.params.Params.{Params}
@@ -7,7 +7,7 @@ use Rattle.xif_base.specs.Params.{IsInRange}
 use Rattle.xif_base.specs.Flags.{even_bit, odd_bit}
 use Rattle.rv32_table.specs.Instr.{source_field}
 use Rattle.coproc_config.specs.declared.accept.Hit.{Hit}
-use Rattle.coproc_config.specs.Accept.{HasFlag, ReadsHigh, hit_of}
+use Rattle.coproc_config.specs.Accept.{HasFlag, hit_of}
 use Rattle.inorder_machine.specs.declared.units.Half.{Half}
 use Rattle.inorder_machine.specs.declared.units.Half.TheVariants.{Low, High}
 use Rattle.inorder_machine.specs.Units.{has_flag, is_read}

@@ -1,7 +1,6 @@
 -- The events of one instruction in flight keep what holds of the machine that runs ahead.
-use Rattle.std.proofs.Common.{◌≡◌, ◌&&◌, ◌||◌, ℕ, Bool, true, false, not, Option, Some, None, is_some, is_none, IsSome, List, [], ◌∷◌, ◌++◌, length, refl, sym, ap, subst, ◌∙◌, inl, inr, if◌then◌else◌}
+use Rattle.std.proofs.Common.{◌≡◌, ◌&&◌, ℕ, Bool, true, false, Some, is_some, is_none, IsSome, List, [], ◌∷◌, ◌++◌, refl, sym, ap, subst, ◌∙◌, if◌then◌else◌}
 use Rattle.std.specs.List.{AllByRecursion}
-use Rattle.rv32_table.specs.declared.instr.Instr.{Instr}
 use Rattle.rv32_table.specs.Instr.{sources_of}
 use Rattle.xif_base.specs.Params.{IsInRange}
 use Rattle.xif_drive.specs.Predictors.{following}
@@ -15,23 +14,23 @@ use Rattle.inorder_machine.specs.Machine.{Extension, State, register_of}
 use Rattle.xif_session.specs.Facts.{is_accepted}
 use Rattle.cycle_spec.specs.declared.entry.Entry.{Entry}
 use Rattle.cycle_spec.specs.declared.entry.EntryKind.{EntryKind}
-use Rattle.cycle_spec.specs.declared.entry.EntryKind.TheVariants.{Local, Unknown, Nowhere}
+use Rattle.cycle_spec.specs.declared.entry.EntryKind.TheVariants.{Unknown}
 use Rattle.cycle_spec.specs.declared.entry.Operand.TheVariants.{Here}
-use Rattle.cycle_spec.specs.Flight.{is_unknown_kind, is_unknown, is_control, is_row, is_control_row, is_open, is_safe, operand_behind, source_behind}
+use Rattle.cycle_spec.specs.Flight.{is_unknown_kind, is_unknown, is_row, is_control_row, is_open, is_safe, operand_behind, source_behind}
 use Rattle.ahead_spec.specs.Walk.{Item, entries, along, Walked, leads_to, IsPath, path_end}
-use Rattle.ahead_spec.specs.Operands.{word_hit, response_of, halves_read, half_in, half_behind, CarriesOperands}
+use Rattle.ahead_spec.specs.Operands.{word_hit, response_of, half_behind, CarriesOperands}
 use Rattle.ahead_spec.specs.World.{World, Spot, whole, with_item, with_flight, with_entry, executed_with, halted_with, answered_with, sent_of, finished_with, result_write, new_item, Dispatches, Executes, Halts, Answers, Sends, Finishes, Drops, happens}
 use Rattle.ahead_spec.specs.Guards.{MayExecute, MayExecuteTo, MayAnswer, MaySend, MayFinish, MayDrop}
 use Rattle.ahead_spec.specs.Pairs.{Pairs}
 use Rattle.ahead_spec.specs.Invariant.{Agrees, InOrder, units_at, RunsAhead}
-use Rattle.ahead_laws.proofs.Lists.{all-front, all-back, all-from, all-both, all-every, pairs-front, pairs-older, pairs-younger, pairs-replaced, pairs-push, not_both, and_false, none_unless}
+use Rattle.ahead_laws.proofs.Lists.{all-back, all-from, all-both, all-every, pairs-front, pairs-older, pairs-younger, pairs-replaced, pairs-push, not_both, and_false, none_unless}
 use Rattle.ahead_laws.proofs.Walks.{SamePlace, walked-front, walked-at, walked-replaced, walked-push, walked-each, path-front, path-at, path-replaced, path-push}
 use Rattle.ahead_laws.proofs.Rows.{never-stops}
 use Rattle.ahead_laws.proofs.Sources.{if_read, unread, first_source, second_source}
 use Rattle.ahead_laws.proofs.Memories.{along-bounds, along-memory, executed-memory}
 use Rattle.ahead_laws.proofs.Views.{operand-value, source-value, half-value}
 use Rattle.ahead_laws.proofs.Uses.{IsIdle, units_at-front, units_at-replaced}
-use Rattle.ahead_laws.proofs.Agreeing.{open-unknown, agrees-dispatched, agrees-executed, agrees-halted, agrees-answered, agrees-sent, accepted-taken, agrees-finished}
+use Rattle.ahead_laws.proofs.Agreeing.{agrees-dispatched, agrees-executed, agrees-halted, agrees-answered, agrees-sent, accepted-taken, agrees-finished}
 use Rattle.ahead_laws.proofs.Safe.{safe-same, safe-word, open-unsafe, safe-executed, safe-plain}
 
 -- the same machine with other instructions in flight

@@ -1,5 +1,5 @@
 -- What a unit makes of lanes that carry what a word reads.
-use Rattle.std.proofs.Common.{◌≡◌, ◌<◌, ◌≤◌, ◌+◌, ◌-◌, ◌*◌, ◌/◌, ◌%◌, ◌^◌, ◌==◌, ◌&&◌, ℕ, zero, suc, Bool, true, false, min, nat_lt, Option, Some, None, IsSomeAnd, List, slice_index, refl, sym, ap, subst, ◌∙◌, arith, lit<, if◌then◌else◌}
+use Rattle.std.proofs.Common.{◌≡◌, ◌<◌, ◌≤◌, ◌+◌, ◌*◌, ◌/◌, ◌%◌, ◌^◌, ◌&&◌, ℕ, zero, suc, Bool, true, false, nat_lt, Option, Some, None, IsSomeAnd, List, slice_index, refl, sym, ap, ◌∙◌, arith, lit<, if◌then◌else◌}
 use native.Mathlib.Nat.{pow-le-pow_right}
 use Rattle.std.specs.Option.{option_map_or}
 use Rattle.std.proofs.Math.Nat.{div-eq_of_lt}

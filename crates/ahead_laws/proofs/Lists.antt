@@ -1,5 +1,5 @@
 -- Lists: what holds of each element, and of each and each later one.
-use Rattle.std.proofs.Common.{◌≡◌, ◌&&◌, ◌||◌, Bool, true, false, not, List, [], ◌∷◌, ◌++◌, Option, Some, None, IsSome, refl}
+use Rattle.std.proofs.Common.{◌≡◌, ◌&&◌, Bool, true, false, List, [], ◌∷◌, ◌++◌, Option, Some, None, IsSome, refl}
 use Rattle.std.specs.List.{AllByRecursion}
 use Rattle.ahead_spec.specs.Pairs.{Pairs}
 

@@ -1,12 +1,12 @@
 -- The memory along the instructions in flight, and what an instruction does with another memory.
-use Rattle.std.proofs.Common.{◌≡◌, ℕ, Bool, true, false, Option, Some, None, List, [], ◌∷◌, length, nat_le, refl, sym, ap, subst, ◌∙◌, ◌+◌, ◌&&◌, if◌then◌else◌}
+use Rattle.std.proofs.Common.{◌≡◌, ℕ, Bool, false, Option, Some, None, List, [], ◌∷◌, length, nat_le, refl, sym, ap, subst, ◌∙◌, ◌+◌, ◌&&◌, if◌then◌else◌}
 use Rattle.std.specs.List.{AllByRecursion}
 use Rattle.rv32_table.specs.declared.instr.Instr.{Instr}
 use Rattle.rv32_table.specs.declared.instr.Kind.TheVariants as row
 use Rattle.rv32_table.specs.Table.{Meaning, Computes, Loads, Stores, Jumps, Branches, Fences, Stops, row_line}
 use Rattle.rv32_table.specs.Instr.{kind_by, kind_of, access_of}
 use Rattle.xif_image.specs.declared.memory.MemFault.TheVariants.{Outside}
-use Rattle.xif_image.specs.Region.{Region, fault_of, loaded, stored}
+use Rattle.xif_image.specs.Region.{Region, loaded}
 use Rattle.xif_image.proofs.Stores.{length-stored}
 use Rattle.inorder_machine.specs.declared.line.Retire.{Retire}
 use Rattle.inorder_machine.specs.declared.line.Store.{Store}

@@ -1,18 +1,16 @@
 -- What an instruction in flight does, by its kind.
-use Rattle.std.proofs.Common.{◌≡◌, ◌&&◌, ℕ, Bool, true, false, not, Option, Some, None, is_some, List, refl, sym, ap, subst, ◌∙◌}
+use Rattle.std.proofs.Common.{◌≡◌, ℕ, true, Option, Some, None, List, refl, sym, ap, subst, ◌∙◌}
 use Rattle.rv32_table.specs.declared.instr.Instr.{Instr}
 use Rattle.rv32_table.specs.Instr.{decoded, rd_field}
 use Rattle.xif_drive.specs.Predictors.{following}
 use Rattle.xif_image.specs.Region.{Region, word_at}
 use Rattle.coproc_config.specs.declared.accept.Hit.{Hit}
-use Rattle.coproc_config.specs.Accept.{hit_of}
 use Rattle.inorder_machine.specs.declared.line.Retire.{Retire}
-use Rattle.inorder_machine.specs.declared.line.Stepped.{Stepped}
 use Rattle.inorder_machine.specs.declared.line.Stepped.TheVariants.{Retired, Stop}
 use Rattle.inorder_machine.specs.declared.stop.StopCause.TheVariants.{Illegal, FetchOutside}
 use Rattle.inorder_machine.specs.Execute.{executed}
 use Rattle.inorder_machine.specs.Units.{unit_write, lane_values}
-use Rattle.inorder_machine.specs.Machine.{Extension, State, register_of, outcome_at, decoded_outcome, offered_outcome, unit_outcome, units_decoded, units_offered, units_after}
+use Rattle.inorder_machine.specs.Machine.{Extension, State, register_of, decoded_outcome, offered_outcome, units_decoded, units_offered, units_after}
 use Rattle.inorder_machine.proofs.Places.{IsAt, outcome-at}
 use Rattle.cycle_spec.specs.declared.entry.EntryKind.{EntryKind}
 use Rattle.cycle_spec.specs.declared.entry.EntryKind.TheVariants.{Local, Unknown, Nowhere}

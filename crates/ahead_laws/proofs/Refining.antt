@@ -1,11 +1,11 @@
 -- What holds of the machine that runs ahead makes it a refinement of the in-order machine.
-use Rattle.std.proofs.Common.{◌≡◌, ◌&&◌, ℕ, Bool, true, false, not, Option, Some, None, is_some, is_none, IsSome, List, [], ◌∷◌, length, refl, sym, ap, subst, ◌∙◌, if◌then◌else◌}
+use Rattle.std.proofs.Common.{◌≡◌, ◌&&◌, ℕ, Bool, true, false, not, Some, is_some, IsSome, List, [], ◌∷◌, length, refl, sym, ap, ◌∙◌, if◌then◌else◌}
 use Rattle.std.specs.List.{AllByRecursion}
 use Rattle.xif_base.specs.Params.{IsInRange}
 use Rattle.inorder_machine.specs.declared.line.Stepped.TheVariants.{Stop}
 use Rattle.inorder_machine.specs.declared.stop.StopCause.{StopCause}
 use Rattle.inorder_machine.specs.Machine.{Extension, State, next_step, state_after}
-use Rattle.cycle_spec.specs.Flight.{is_stopping, is_safe_kind, is_safe}
+use Rattle.cycle_spec.specs.Flight.{is_safe_kind, is_safe}
 use Rattle.ahead_spec.specs.Walk.{Item, outcome, stepped, Walked, IsPath}
 use Rattle.ahead_spec.specs.World.{World, Event, run, begun}
 use Rattle.ahead_spec.specs.Guards.{MayRun}

@@ -1,5 +1,5 @@
 -- A release, and the result of a released word, keep what holds of the machine that runs ahead.
-use Rattle.std.proofs.Common.{◌≡◌, ◌⊎◌, ◌&&◌, ◌||◌, ℕ, Bool, true, false, not, Option, Some, None, is_some, is_none, IsSome, List, [], ◌∷◌, ◌++◌, map, refl, sym, ap, subst, ◌∙◌, inl, inr, if◌then◌else◌}
+use Rattle.std.proofs.Common.{◌≡◌, ◌⊎◌, ◌&&◌, ◌||◌, ℕ, Bool, true, false, Option, Some, None, is_some, is_none, IsSome, List, [], ◌∷◌, ◌++◌, map, refl, sym, ap, subst, ◌∙◌, inl, inr, if◌then◌else◌}
 use Rattle.std.specs.List.{AllByRecursion}
 use Rattle.xif_base.specs.Params.{IsInRange}
 use Rattle.xif_image.specs.Region.{Region}
@@ -7,8 +7,6 @@ use Rattle.inorder_machine.specs.Machine.{Extension, State}
 use Rattle.xif_session.specs.declared.fact.Response.{Response}
 use Rattle.xif_session.specs.Facts.{is_accepted}
 use Rattle.cycle_spec.specs.declared.entry.Entry.{Entry}
-use Rattle.cycle_spec.specs.declared.entry.EntryKind.{EntryKind}
-use Rattle.cycle_spec.specs.declared.entry.EntryKind.TheVariants.{Local, Unknown, Nowhere}
 use Rattle.cycle_spec.specs.Flight.{is_unknown_kind, is_unknown, is_open, is_safe}
 use Rattle.ahead_spec.specs.Walk.{Item, stepped, along, Walked, leads_to, IsPath}
 use Rattle.ahead_spec.specs.Operands.{word_hit, halves_read, lanes_of, CarriesOperands, applied_to, unit_step}
@@ -19,7 +17,6 @@ use Rattle.ahead_spec.specs.Invariant.{Agrees, InOrder, is_use, is_waiting_use, 
 use Rattle.ahead_laws.proofs.Lists.{all-from, all-both, pairs-replaced, not_both, and_left, and_right, and_false, false_or, none_unless}
 use Rattle.ahead_laws.proofs.Walks.{SamePlace, walked-both, walked-replaced, path-at, path-replaced}
 use Rattle.ahead_laws.proofs.Lanes.{carried-same, carries-nothing}
-use Rattle.ahead_laws.proofs.Outcomes.{unknown-kind}
 use Rattle.ahead_laws.proofs.Uses.{use-units, IsIdle, units_at-idle, units_at-passed}
 use Rattle.ahead_laws.proofs.Agreeing.{agrees-released, agrees-applied, accepted-response, accepted-taken}
 use Rattle.ahead_laws.proofs.Safe.{safe-same}

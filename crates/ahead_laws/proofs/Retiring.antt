@@ -1,24 +1,21 @@
 -- A retirement keeps what holds of the machine that runs ahead; so do any events.
-use Rattle.std.proofs.Common.{◌≡◌, ◌&&◌, ℕ, suc, Bool, true, false, not, Option, Some, None, is_some, is_none, IsSome, List, [], ◌∷◌, ◌++◌, length, refl, sym, ap, subst, ◌∙◌, if◌then◌else◌}
+use Rattle.std.proofs.Common.{◌≡◌, ℕ, suc, true, false, Option, Some, None, is_some, is_none, List, [], ◌∷◌, ◌++◌, length, refl, sym, ap, subst, ◌∙◌, if◌then◌else◌}
 use Rattle.std.specs.List.{AllByRecursion}
 use Rattle.std.specs.Option.{option_and_then}
 use Rattle.xif_base.specs.Params.{IsInRange}
 use Rattle.xif_image.specs.Region.{Region, word_at}
 use Rattle.inorder_machine.specs.declared.line.Retire.{Retire}
-use Rattle.inorder_machine.specs.declared.line.Stepped.{Stepped}
-use Rattle.inorder_machine.specs.declared.line.Stepped.TheVariants.{Retired, Stop}
-use Rattle.inorder_machine.specs.Machine.{Extension, State, registers_after, memory_after, taken, state_after, next_step, fetched_outcome, outcome_at}
+use Rattle.inorder_machine.specs.declared.line.Stepped.TheVariants.{Retired}
+use Rattle.inorder_machine.specs.Machine.{Extension, State, registers_after, memory_after, taken, state_after, next_step, fetched_outcome}
 use Rattle.inorder_machine.specs.After.{next_state, after, state_if_retired}
-use Rattle.cycle_spec.specs.declared.entry.Entry.{Entry}
-use Rattle.cycle_spec.specs.declared.entry.EntryKind.{EntryKind}
 use Rattle.cycle_spec.specs.Flight.{is_unknown, kind_at}
-use Rattle.cycle_spec.specs.Core.{word_of, word_or_zero, line_of}
-use Rattle.ahead_spec.specs.Walk.{Item, outcome_of_word, outcome, stepped, Walked, leads_to, IsPath}
+use Rattle.cycle_spec.specs.Core.{word_of, line_of}
+use Rattle.ahead_spec.specs.Walk.{Item, outcome_of_word, outcome, stepped, Walked, IsPath}
 use Rattle.ahead_spec.specs.Operands.{word_hit}
 use Rattle.ahead_spec.specs.World.{World, Event, Dispatches, Executes, Halts, Answers, Sends, Releases, Applies, Finishes, Drops, Retires, happens, run, begun}
 use Rattle.ahead_spec.specs.Guards.{MayRetire, May, MayRun}
 use Rattle.ahead_spec.specs.Pairs.{Pairs}
-use Rattle.ahead_spec.specs.Refines.{line_in, line_from, lines, stop_in, Refines}
+use Rattle.ahead_spec.specs.Refines.{line_in, line_from, lines}
 use Rattle.ahead_spec.specs.Invariant.{Agrees, InOrder, is_use, is_waiting_use, units_at, RunsAhead}
 use Rattle.ahead_laws.proofs.Lists.{and_left, and_right, false_or}
 use Rattle.ahead_laws.proofs.Views.{stepped-count}

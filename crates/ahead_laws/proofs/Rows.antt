@@ -1,16 +1,15 @@
 -- What the table of RV32IM says of what an instruction does.
-use Rattle.std.proofs.Common.{◌≡◌, ◌<◌, ◌⊎◌, ◌||◌, ◌+◌, ◌==◌, ◌&&◌, ℕ, Bool, true, false, not, Option, Some, None, Result, Ok, Err, List, refl, sym, ap, subst, ◌∙◌, inl, inr, arith, if◌then◌else◌}
+use Rattle.std.proofs.Common.{◌≡◌, ◌⊎◌, ◌||◌, ◌==◌, ℕ, Bool, true, false, Option, Some, None, Result, Ok, Err, refl, ap, subst, inl, inr, arith}
 use Rattle.std.specs.List.{list_all}
 use Rattle.std.specs.Option.{option_map}
 use Rattle.std.proofs.lemmas.Bool.{or_cases, eqb-true}
 use Rattle.rv32_table.specs.declared.rows.Row.{Row}
 use Rattle.rv32_table.specs.declared.instr.Instr.{Instr}
-use Rattle.rv32_table.specs.declared.instr.Kind.{Kind}
 use Rattle.rv32_table.specs.declared.instr.Kind.TheVariants as kind
 use Rattle.rv32_table.specs.declared.control.Next.{Next}
 use Rattle.rv32_table.specs.declared.control.Next.TheVariants.{Go, Misaligned}
 use Rattle.rv32_table.specs.Table.{Meaning, Computes, Loads, Stores, Jumps, Branches, Fences, Stops, row_line, rows}
-use Rattle.rv32_table.specs.Instr.{row_of, instr_of, decoded, kind_by, kind_of, target_of, access_of, value_of, next_of, NamesRegisters}
+use Rattle.rv32_table.specs.Instr.{row_of, instr_of, decoded, kind_by, kind_of, access_of, value_of, next_of, NamesRegisters}
 use Rattle.rv32_table.proofs.Distinct.{passes}
 use Rattle.xif_drive.specs.Predictors.{following}
 use Rattle.xif_image.specs.declared.memory.MemFault.{MemFault}
@@ -135,7 +134,7 @@ all_widths = refl
 width_is : (w : ℕ) → is_width w ≡ true → IsWidth w
 width_is w h = elim (or_cases (w == 1) ((w == 2) || (w == 4)) h) [
   | inl e ↦ inl (eqb-true w 1 e)
-  | inr k ↦ inr (elim (or_cases (w == 2) (w == 4) k) [ | inl e ↦ inl (eqb-true w 2 e) | inr e ↦ inr (eqb-true w 4 e) ])
+  | inr k ↦ inr (elim (or_cases (w == 2) (w == 4) k) [ inl e ↦ inl (eqb-true w 2 e) | inr e ↦ inr (eqb-true w 4 e) ])
 ]
 
 abbrev Fitting : Region → Stepped → Type 0

@@ -1,5 +1,5 @@
 -- The accumulators along the instructions in flight.
-use Rattle.std.proofs.Common.{◌≡◌, ◌&&◌, ℕ, Bool, true, false, Option, Some, None, is_some, is_none, List, [], ◌∷◌, ◌++◌, refl, sym, ap, subst, ◌∙◌, if◌then◌else◌}
+use Rattle.std.proofs.Common.{◌≡◌, ◌&&◌, Bool, true, false, Option, Some, None, is_some, is_none, List, [], ◌∷◌, ◌++◌, refl, sym, ap, ◌∙◌, if◌then◌else◌}
 use Rattle.std.specs.List.{AllByRecursion}
 use Rattle.xif_image.specs.Region.{Region}
 use Rattle.coproc_config.specs.declared.accept.Hit.{Hit}
@@ -13,7 +13,7 @@ use Rattle.ahead_spec.specs.Walk.{Item, outcome, stepped, along, Walked}
 use Rattle.ahead_spec.specs.Operands.{word_hit, unit_step}
 use Rattle.ahead_spec.specs.Invariant.{Agrees, is_use, is_waiting_use, units_at}
 use Rattle.ahead_laws.proofs.Walks.{SamePlace, same_step}
-use Rattle.ahead_laws.proofs.Outcomes.{outcome-nowhere, outcome-place, outcome-taken, units-taken, units-refused, units-local, use_line, unknown-kind, entry-local, entry-unknown}
+use Rattle.ahead_laws.proofs.Outcomes.{outcome-nowhere, outcome-place, outcome-taken, units-taken, units-refused, units-local, entry-local, entry-unknown}
 
 -- ---- one instruction in flight
 

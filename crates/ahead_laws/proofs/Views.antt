@@ -1,10 +1,9 @@
 -- A register behind instructions in flight is what the in-order machine has there.
-use Rattle.std.proofs.Common.{◌≡◌, ◌<◌, ◌⊎◌, ◌||◌, ◌&&◌, ◌+◌, ◌%◌, ◌==◌, ℕ, Bool, true, false, not, Option, Some, None, IsSome, List, [], ◌∷◌, length, slice_index, map, refl, sym, ap, subst, ◌∙◌, inl, inr, arith, if◌then◌else◌}
+use Rattle.std.proofs.Common.{◌≡◌, ◌<◌, ◌⊎◌, ◌&&◌, ◌%◌, ◌==◌, ℕ, Bool, true, false, not, Option, Some, None, List, [], ◌∷◌, length, slice_index, refl, sym, ap, subst, ◌∙◌, inl, inr, arith, if◌then◌else◌}
 use Rattle.std.specs.List.{filter, last_or}
 use Rattle.std.proofs.lemmas.Bool.{eqb-true}
 use Rattle.std.specs.Option.{option_map_or}
-use Rattle.rv32_table.specs.declared.instr.Instr.{Instr}
-use Rattle.rv32_table.specs.Instr.{sources_of, target_of, rd_field, source_field}
+use Rattle.rv32_table.specs.Instr.{rd_field, source_field}
 use Rattle.xif_base.specs.declared.params.Params.{Params}
 use Rattle.xif_base.specs.Params.{IsInRange}
 use Rattle.xif_image.specs.Region.{Region}
@@ -16,7 +15,7 @@ use Rattle.inorder_machine.specs.declared.line.Stepped.TheVariants.{Retired, Sto
 use Rattle.inorder_machine.specs.declared.line.Write.{Write}
 use Rattle.inorder_machine.specs.declared.units.Half.{Half}
 use Rattle.inorder_machine.specs.Units.{has_flag, unit_write, half_register}
-use Rattle.inorder_machine.specs.Machine.{Extension, State, register_in, register_of, registers_after, taken, state_after}
+use Rattle.inorder_machine.specs.Machine.{Extension, State, register_of, registers_after, taken, state_after}
 use Rattle.xif_session.specs.declared.fact.Response.{Response}
 use Rattle.xif_session.specs.Facts.{is_accepted}
 use Rattle.cycle_spec.specs.declared.entry.Entry.{Entry}
@@ -31,10 +30,10 @@ use Rattle.ahead_spec.specs.Walk.{Item, entries, outcome, stepped, along, Walked
 use Rattle.ahead_spec.specs.Operands.{word_hit, response_of, unit_step, half_in, half_behind}
 use Rattle.ahead_spec.specs.Invariant.{Agrees}
 use Rattle.ahead_laws.proofs.Rows.{decoded-registers}
-use Rattle.ahead_laws.proofs.Sources.{if_read, first_source, second_source}
+use Rattle.ahead_laws.proofs.Sources.{if_read}
 use Rattle.ahead_laws.proofs.Writes.{Within, count-after, row-writes, unanswered-stays, answered-writes}
 use Rattle.ahead_laws.proofs.Hits.{hit-allowed}
-use Rattle.ahead_laws.proofs.Outcomes.{outcome-nowhere, use_line, retired-taken, entry-local, entry-unknown, entry-outcome-local}
+use Rattle.ahead_laws.proofs.Outcomes.{outcome-nowhere, retired-taken, entry-local, entry-unknown, entry-outcome-local}
 
 -- ---- one instruction in flight
 

@@ -1,5 +1,5 @@
 -- A walk along the instructions in flight, and the path of their addresses.
-use Rattle.std.proofs.Common.{◌≡◌, ℕ, List, [], ◌∷◌, ◌++◌, refl, sym, ap, ◌∙◌, subst}
+use Rattle.std.proofs.Common.{◌≡◌, ℕ, List, [], ◌∷◌, ◌++◌, sym, ap, ◌∙◌, subst}
 use Rattle.std.specs.List.{AllByRecursion}
 use Rattle.inorder_machine.specs.Machine.{Extension, State}
 use Rattle.ahead_spec.specs.Walk.{Item, stepped, along, Walked, leads_to, IsPath, path_end}

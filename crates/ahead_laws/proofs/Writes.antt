@@ -2,8 +2,7 @@
 use Rattle.std.proofs.Common.{◌≡◌, ◌≢◌, ◌<◌, ◌⊎◌, ◌||◌, ◌&&◌, ◌+◌, ◌%◌, ◌==◌, ℕ, Bool, true, false, not, Option, Some, None, Result, Ok, Err, List, length, slice_index, set, refl, sym, ap, subst, ◌∙◌, inl, inr, arith, if◌then◌else◌}
 use Rattle.std.specs.List.{list_all}
 use Rattle.std.specs.Option.{option_map_or}
-use Rattle.std.proofs.lemmas.Bool.{eqb-true, eqb-false, eq-eqb, ne_eqb}
-use Rattle.std.proofs.lemmas.Bool.Decides.{nat_tests}
+use Rattle.std.proofs.lemmas.Bool.{eqb-true, eqb-false, eq-eqb}
 use Rattle.std.proofs.lemmas.List.{get_or-set_same, get_or-set_other}
 use Rattle.std.proofs.Math.ListN.{length-set}
 use Rattle.rv32_table.specs.declared.rows.Row.{Row}
@@ -20,7 +19,7 @@ use Rattle.coproc_config.specs.Bits.{low_half, high_half}
 use Rattle.inorder_machine.specs.declared.line.Retire.{Retire}
 use Rattle.inorder_machine.specs.declared.line.Store.{Store}
 use Rattle.inorder_machine.specs.declared.line.Stepped.{Stepped}
-use Rattle.inorder_machine.specs.declared.line.Stepped.TheVariants.{Retired, Stop}
+use Rattle.inorder_machine.specs.declared.line.Stepped.TheVariants.{Retired}
 use Rattle.inorder_machine.specs.declared.line.Write.{Write}
 use Rattle.inorder_machine.specs.declared.line.Write.TheVariants as write
 use Rattle.inorder_machine.specs.Execute.{At, write_to, store_of, load_outcome, store_outcome, control_outcome, executed_by, executed}
@@ -29,7 +28,6 @@ use Rattle.inorder_machine.specs.Machine.{registers_after}
 use Rattle.inorder_machine.specs.Units.{has_flag, halves_write, unit_write}
 use Rattle.xif_session.specs.declared.fact.Response.{Response}
 use Rattle.cycle_spec.specs.Flight.{may_write_word, value_in}
-use Rattle.ahead_laws.proofs.Lists.{and_right}
 
 -- a register other than x0 after a write, which may be to it or not
 pub record Within (may : Bool) (r : ℕ) (registers : List ℕ) (w : Write) : Type 0 where

@@ -1,6 +1,6 @@
 -- What a word of a coprocessor reads and computes, in a state of the in-order machine and behind
 -- instructions in flight (CV-X-IF 1.0.0, "Issue interface" and "Register interface").
-use Rattle.std.specs.Prelude.{◌≡◌, ℕ, Bool, IsTrue, Option, Some, None, is_some, List, [], ◌∷◌}
+use Rattle.std.specs.Prelude.{◌≡◌, ℕ, Bool, IsTrue, Option, is_some, List, [], ◌∷◌}
 use Rattle.std.specs.Option.{option_map_or}
 use Rattle.rv32_table.specs.Instr.{source_field}
 use Rattle.coproc_config.specs.declared.accept.Hit.{Hit}

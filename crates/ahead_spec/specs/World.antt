@@ -1,5 +1,5 @@
 -- The machine that runs ahead of the in-order machine, and its events.
-use Rattle.std.specs.Prelude.{ℕ, ◌||◌, true, if◌then◌else◌, Option, Some, None, List, [], ◌∷◌, ◌++◌, map}
+use Rattle.std.specs.Prelude.{ℕ, ◌||◌, true, if◌then◌else◌, Some, None, List, [], ◌∷◌, ◌++◌, map}
 use Rattle.rv32_table.specs.Instr.{rd_field}
 use Rattle.xif_image.specs.Region.{Region, word_at}
 use Rattle.inorder_machine.specs.declared.line.Retire.{Retire}
