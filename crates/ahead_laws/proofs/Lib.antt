@@ -18,3 +18,4 @@ pub mod Refining
 pub mod Fetches
 pub mod Halves
 pub mod EntryChanges
+mod Examples
