@@ -1,15 +1,13 @@
 -- Events that may happen, computed by the definitions alone: a word of a coprocessor retires, and
 -- another one, on a wrong path, is dropped and leaves nothing.
-use Rattle.std.proofs.Common.{◌≡◌, ◌==◌, ◌&&◌, ◌+◌, ◌-◌, ◌≤◌, ℕ, zero, suc, Bool, true, false, List, [], ◌∷◌, ◌++◌, map, length, drop, take, replicate, nat_lt, Option, Some, None, refl, sym, ap, ◌∙◌, inl, inr, arith, if◌then◌else◌}
+use Rattle.std.proofs.Common.{◌≡◌, ◌+◌, ◌≤◌, ℕ, zero, suc, true, false, List, [], ◌∷◌, map, drop, take, replicate, nat_lt, Some, None, refl, inl, arith}
 use Rattle.std.specs.Prelude.{slice_index_or}
 use Rattle.std.specs.List.{flat_map}
 use Rattle.std.specs.Int.{w32, to_le_bytes}
 use Rattle.std.proofs.lemmas.Bool.{ltb-true}
 use Rattle.rv32_table.specs.declared.rows.Row.TheVariants.{Addi, Beq}
-use Rattle.rv32_table.specs.declared.instr.Instr.{Instr}
 use Rattle.xif_base.specs.declared.params.Params.{Params}
 use Rattle.xif_drive.specs.Predictors.{following}
-use Rattle.coproc_config.specs.declared.operation.Entry.{Entry}
 use Rattle.coproc_config.specs.declared.operation.Op.TheVariants.{AccAdd, ExtractU}
 use Rattle.coproc_config.specs.Set.{UnitTable}
 use Rattle.inorder_machine.specs.declared.line.Retire.{Retire}
@@ -22,8 +20,8 @@ use Rattle.inorder_machine.specs.Units.{is_read}
 use Rattle.xif_session.specs.Facts.{is_accepted}
 use Rattle.cycle_spec.specs.declared.entry.Operand.TheVariants.{Here}
 use Rattle.ahead_laws.proofs.Lists.{and_left}
-use Rattle.ahead_spec.specs.Walk.{Item, entries}
-use Rattle.ahead_spec.specs.Operands.{halves_read, lanes_of, half_behind}
+use Rattle.ahead_spec.specs.Walk.{entries}
+use Rattle.ahead_spec.specs.Operands.{half_behind}
 use Rattle.ahead_spec.specs.World.{World, Spot, Event, Dispatches, Executes, Answers, Sends, Releases, Applies, Finishes, Drops, Retires, begun, new_item, happens, run}
 use Rattle.ahead_spec.specs.Guards.{MayExecuteTo, MayRun}
 use Rattle.ahead_spec.specs.Refines.{stop_in}
@@ -206,25 +204,58 @@ may_execute-beq = record {
 }
 
 may_run : MayRun x (begun start) events
-may_run =
-    (tt,
-    (tt,
-    (tt,
-    (tt,
-    (may_execute-addi,
-    (record { here = refl; unanswered = refl; answered = (refl, tt) },
-    (record { here = refl; halves = halves; lanes_are = refl; read = read },
-    (record { here = refl; unanswered = refl; answered = (refl, (refl, (refl, tt))) },
-    (record { here = refl; unreleased = (refl, tt) },
-    (may_execute-beq,
-    (tt,
-    (record { here = refl; accepted = refl; safe = (refl, tt) },
-    (record { here = refl; released = refl; lanes_are = inl refl; is_new = refl; applied = (λ h. absurd (refused h), tt) },
-    (record { here = refl; result_is = refl },
-    (record { here = refl; done = refl; fetched = (refl, (refl, (refl, tt))) },
-    (record { here = refl; done = refl; fetched = (refl, (refl, tt)) },
-    (record { here = refl; done = refl; fetched = (refl, tt) },
-    tt)))))))))))))))))
+may_run = (
+  tt,
+  (
+    tt,
+    (
+      tt,
+      (
+        tt,
+        (
+          may_execute-addi,
+          (
+            record { here = refl; unanswered = refl; answered = (refl, tt) },
+            (
+              record { here = refl; halves = halves; lanes_are = refl; read = read },
+              (
+                record { here = refl; unanswered = refl; answered = (refl, (refl, (refl, tt))) },
+                (
+                  record { here = refl; unreleased = (refl, tt) },
+                  (
+                    may_execute-beq,
+                    (
+                      tt,
+                      (
+                        record { here = refl; accepted = refl; safe = (refl, tt) },
+                        (
+                          record { here = refl; released = refl; lanes_are = inl refl; is_new = refl; applied = (λ h. absurd (refused h), tt) },
+                          (
+                            record { here = refl; result_is = refl },
+                            (
+                              record { here = refl; done = refl; fetched = (refl, (refl, (refl, tt))) },
+                              (
+                                record { here = refl; done = refl; fetched = (refl, (refl, tt)) },
+                                (
+                                  record { here = refl; done = refl; fetched = (refl, tt) },
+                                  tt,
+                                ),
+                              ),
+                            ),
+                          ),
+                        ),
+                      ),
+                    ),
+                  ),
+                ),
+              ),
+            ),
+          ),
+        ),
+      ),
+    ),
+  ),
+)
 
 -- ---- what they leave
 

@@ -4,7 +4,7 @@ pub mod Sources
 pub mod Rows
 pub mod Writes
 pub mod Hits
-pub mod Lanes
+pub mod Carried
 pub mod Outcomes
 pub mod Memories
 pub mod Views
@@ -18,4 +18,5 @@ pub mod Refining
 pub mod Fetches
 pub mod Halves
 pub mod EntryChanges
+pub mod Presenting
 mod Examples

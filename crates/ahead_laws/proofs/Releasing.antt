@@ -16,7 +16,7 @@ use Rattle.ahead_spec.specs.Pairs.{Pairs}
 use Rattle.ahead_spec.specs.Invariant.{Agrees, InOrder, is_use, is_waiting_use, units_at, RunsAhead}
 use Rattle.ahead_laws.proofs.Lists.{all-from, all-both, pairs-replaced, not_both, and_left, and_right, and_false, false_or, none_unless}
 use Rattle.ahead_laws.proofs.Walks.{SamePlace, walked-both, walked-replaced, path-at, path-replaced}
-use Rattle.ahead_laws.proofs.Lanes.{carried-same, carries-nothing}
+use Rattle.ahead_laws.proofs.Carried.{carried-same, carries-nothing}
 use Rattle.ahead_laws.proofs.Uses.{use-units, IsIdle, units_at-idle, units_at-passed}
 use Rattle.ahead_laws.proofs.Agreeing.{agrees-released, agrees-applied, accepted-response, accepted-taken}
 use Rattle.ahead_laws.proofs.Safe.{safe-same}
