@@ -9,7 +9,7 @@ use Rattle.xif_session.specs.Facts.{is_accepted}
 use Rattle.cycle_spec.specs.declared.entry.Entry.{Entry}
 use Rattle.cycle_spec.specs.Flight.{is_unknown_kind, is_unknown, is_open, is_safe}
 use Rattle.ahead_spec.specs.Walk.{Item, stepped, along, Walked, leads_to, IsPath}
-use Rattle.ahead_spec.specs.Operands.{word_hit, halves_read, lanes_of, CarriesOperands, applied_to, unit_step}
+use Rattle.ahead_spec.specs.Operands.{word_hit, halves_read, CarriesOperands, applied_to, unit_step}
 use Rattle.ahead_spec.specs.World.{World, Spot, whole, with_item, released_of, released_item, Releases, Applies, happens}
 use Rattle.ahead_spec.specs.Guards.{MayRelease, MayApply}
 use Rattle.ahead_spec.specs.Pairs.{Pairs}
@@ -101,9 +101,9 @@ passed x memory s y z g o answered computed = false_or (is_waiting_use x y) no
 
 -- lanes that were sent carry what the word reads
 lanes-carry : (x : Extension) (memory : Region) (s : State) (y : Item) (lanes : List ℕ) → Agrees x memory s y
-    → (y.sent ≡ Some lanes) ⊎ ((halves_read x y.entry.word ≡ 0) × ((halves : (lane : ℕ) → _ → ℕ) × (lanes ≡ lanes_of halves))) → CarriesOperands x s y.entry.word lanes
+    → (y.sent ≡ Some lanes) ⊎ ((halves_read x y.entry.word ≡ 0) × (lanes ≡ 0 ∷ 0 ∷ 0 ∷ [])) → CarriesOperands x s y.entry.word lanes
 lanes-carry x memory s y lanes g (inl e) = g.sent_is lanes e
-lanes-carry x memory s y lanes g (inr n) = carries-nothing x s y.entry.word lanes n.0 n.1.0 n.1.1
+lanes-carry x memory s y lanes g (inr n) = carries-nothing x s y.entry.word lanes n.0 (λ lane half. 0) n.1
 
 younger-idle : (y : Item) (ys : List Item) → AllByRecursion (InOrder y) ys → y.result ≡ None → is_accepted y.entry.response ≡ true → AllByRecursion IsIdle ys
 younger-idle y ys h n a = all-from (InOrder y) IsIdle ys (λ z o. none_unless z.result (λ k. no (subst IsSome n (o.computed k a)))) h

@@ -36,7 +36,8 @@ pub fn each_event_keeps_what_holds()
 {}
 
 /// A register that an instruction in flight finds here, lanes that were sent to a word, and the
-/// result of a word: each is what the in-order machine has at that instruction, on a wrong path too.
+/// result of a word: each is what the in-order machine has at that instruction, also on a wrong
+/// path.
 pub fn what_is_in_flight_is_in_order()
     ensures operand { (x : Extension) → (start : State) → (w : World) → (p : Spot)
         → (ahead : RunsAhead x start w) → (r value : ℕ)

@@ -1,5 +1,5 @@
-//! What an event makes of an instruction in flight is what a step of a cycle makes of the entry that
-//! it names by its number, and that step leaves all others.
+//! What an event makes of an instruction in flight is what a step of a cycle makes of the entry
+//! that it names by its number, and that step leaves all others.
 ghost use Rattle.std.specs.Prelude.{◌≡◌, ℕ, false, true, nat_le};
 ghost use Rattle.inorder_machine.specs.declared.line.Retire.{Retire};
 ghost use Rattle.inorder_machine.specs.declared.line.Write.{Write};

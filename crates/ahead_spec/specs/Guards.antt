@@ -20,8 +20,8 @@ use Rattle.ahead_spec.specs.Walk.{Item, entries, IsPath}
 use Rattle.ahead_spec.specs.Operands.{halves_read, lanes_of, half_behind}
 use Rattle.ahead_spec.specs.World.{World, Spot, whole, Event, Dispatches, Executes, Halts, Answers, Sends, Releases, Applies, Finishes, Drops, Retires, happens}
 
--- An instruction of RV32IM executes with this outcome, on the memory and on the registers behind the
--- older ones, which are all here. A load has no older store in flight.
+-- An instruction of RV32IM executes with this outcome, on the memory and on the registers behind
+-- the older ones, which are all here. A load has no older store in flight.
 pub record MayExecute (x : Extension) (w : World) (p : Spot) (outcome : Stepped) : Type 0 where
   pub here : w.flight ≡ whole p
   pub instr : Instr
@@ -66,13 +66,13 @@ pub record MayRelease (w : World) (p : Spot) : Type 0 where
   pub accepted : is_accepted p.item.entry.response ≡ true
   pub safe : AllByRecursion (λ y. is_safe y.entry ≡ true) p.older
 
--- Released words are computed in their order, each from the lanes that were sent; for one that reads
--- nothing any lanes do.
+-- Released words are computed in their order, each from the lanes that were sent; one that reads
+-- nothing may have none, which are then 0.
 pub record MayApply (x : Extension) (w : World) (p : Spot) (lanes : List ℕ) : Type 0 where
   pub here : w.flight ≡ whole p
   pub released : p.item.entry.released ≡ true
   pub lanes_are : (p.item.sent ≡ Some lanes)
-      ⊎ ((halves_read x p.item.entry.word ≡ 0) × ((halves : (lane : ℕ) → Half → ℕ) × (lanes ≡ lanes_of halves)))
+      ⊎ ((halves_read x p.item.entry.word ≡ 0) × (lanes ≡ 0 ∷ 0 ∷ 0 ∷ []))
   pub is_new : p.item.result ≡ None
   pub applied
       : AllByRecursion (λ y. is_accepted y.entry.response ≡ true → IsSome y.result) p.older

@@ -19,8 +19,8 @@ use Rattle.ahead_spec.specs.Refines.{lines}
 
 -- ---- an instruction in flight, in the state before it
 
--- What is known of it is what the in-order machine does there; the memory is that behind the retired
--- instructions.
+-- What is known of it is what the in-order machine does there; the memory is that behind the
+-- retired instructions.
 pub record Agrees (x : Extension) (memory : Region) (s : State) (y : Item) : Type 0 where
   -- its word is that of the memory
   pub kind_is : y.entry.kind ≡ kind_at (word_at memory y.entry.pc)

@@ -57,7 +57,8 @@ half_behind dual_write registers older word lane half =
     option_map_or (operand_behind dual_write registers older)
     (half_register (source_field word lane) half) (Here 0)
 
--- Lanes carry what a word reads: a half that it reads has its register, and any other half anything.
+-- Lanes carry what a word reads: a half that it reads has its register, and any other half
+-- anything.
 pub record CarriesOperands (x : Extension) (s : State) (word : ℕ) (lanes : List ℕ) : Type 0 where
   pub halves : (lane : ℕ) → Half → ℕ
   pub lanes_are : lanes ≡ lanes_of halves
@@ -68,7 +69,8 @@ pub record CarriesOperands (x : Extension) (s : State) (word : ℕ) (lanes : Lis
 -- ---- units
 
 -- what the unit that takes a word makes of accumulators and lanes
-abbrev pub applied_to : Extension → (word : ℕ) → (units : List (List ℕ)) → (lanes : List ℕ) → Outcome
+abbrev pub applied_to
+    : Extension → (word : ℕ) → (units : List (List ℕ)) → (lanes : List ℕ) → Outcome
 applied_to x word units lanes = outcome_by x.set (word_hit x word) units lanes
 
 -- the same in a state of the in-order machine, with the registers that the word reads

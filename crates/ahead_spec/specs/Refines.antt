@@ -32,8 +32,8 @@ stop_in [] = None
 stop_in (y ∷ ys) = y.entry.stop
 
 -- Registers, memory and the retired lines are those of the in-order machine after as many
--- instructions. So are the accumulators, where nothing is in flight and where the oldest instruction
--- stops the machine; the in-order machine then stops there, for the same cause.
+-- instructions. So are the accumulators, where nothing is in flight and where the oldest
+-- instruction stops the machine; the in-order machine then stops there, for the same cause.
 pub record Refines (x : Extension) (start : State) (w : World) : Type 0 where
   pub now : State
   pub arrived : after x (length w.retired) start ≡ Some now
