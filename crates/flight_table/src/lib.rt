@@ -12,6 +12,7 @@
 
 mod change;
 mod entry;
+mod older;
 mod registers;
 mod search;
 mod table;

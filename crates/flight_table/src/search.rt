@@ -2,11 +2,11 @@
 ghost use Rattle.std.specs.Prelude.{◌≡◌, ◌<◌, ◌≤◌, ◌+◌, ◌-◌, ◌^◌, ◌++◌, ◌∷◌, [], List, find, length, take, drop, slice_get, Some};
 ghost use Rattle.std.specs.List.{list_any};
 ghost use Rattle.cycle_spec.specs.Flight as flight;
+ghost use Rattle.flight_table.specs.Older.{IsOlder};
 ghost use Rattle.flight_table.specs.Wanted.{passes};
 
-use crate::entry::{
-    Wanted, holds_id, is_pending, is_safe, is_store, is_undecided, may_write, passes, value_in,
-};
+use crate::entry::{Wanted, holds_id, is_safe, is_undecided, may_write, passes, value_in};
+use crate::older::Older;
 use crate::registers::Registers;
 use circular_buffer::HeapCircularBuffer;
 use cycle_spec::{Entry, EntryKind, Operand};
@@ -173,26 +173,16 @@ pub(crate) fn ready_among(
 ) -> Option<Entry>
     ensures { result ≡ flight.ready_oldest dual_write file.now (take count ring.now.items) }
 {
-    let mut older_store = false;
-    let mut older_pending = false;
+    let mut older = Older::none();
     for index in 0..ring.len() {
         if index >= count {
             return None;
         }
         let entry = entry_within(ring, count, index);
-        if may_execute(
-            ring,
-            file,
-            dual_write,
-            index,
-            entry,
-            older_store,
-            older_pending,
-        ) {
+        if may_execute(ring, file, dual_write, index, entry, &older) {
             return Some(*entry);
         }
-        older_store = older_store || is_store(entry);
-        older_pending = older_pending || is_pending(entry);
+        older.note(dual_write, entry);
     }
     None
 }
@@ -203,12 +193,10 @@ fn may_execute(
     dual_write: bool,
     count: usize,
     entry: &Entry,
-    older_store: bool,
-    older_pending: bool,
+    older: &Older,
 ) -> bool
     requires count { count ≤ length ring.now.items }
-    requires store { older_store ≡ list_any flight.is_store (take count ring.now.items) }
-    requires pending { older_pending ≡ list_any flight.is_pending (take count ring.now.items) }
+    requires older { IsOlder dual_write file.now (take count ring.now.items) older.now }
     ensures { result
         ≡ flight.may_execute dual_write file.now (take count ring.now.items) entry.now }
 {
@@ -217,8 +205,8 @@ fn may_execute(
     }
     match entry.kind {
         EntryKind::Local(instr) => {
-            are_sources_here(ring, file, dual_write, count, &instr)
-                && !is_held_back(instr.kind(), older_store, older_pending)
+            are_sources_here(ring, file, dual_write, count, older, &instr)
+                && !is_held_back(instr.kind(), older.store, older.pending)
         }
         EntryKind::Unknown | EntryKind::Nowhere => false,
     }
@@ -241,15 +229,17 @@ fn are_sources_here(
     file: &Registers,
     dual_write: bool,
     count: usize,
+    older: &Older,
     instr: &Instr,
 ) -> bool
-    requires { count ≤ length ring.now.items }
+    requires count { count ≤ length ring.now.items }
+    requires older { IsOlder dual_write file.now (take count ring.now.items) older.now }
     ensures { result
         ≡ flight.are_sources_here dual_write file.now (take count ring.now.items) instr.now }
 {
     let (first, second) = instr.sources();
-    is_source_here(ring, file, dual_write, count, first)
-        && is_source_here(ring, file, dual_write, count, second)
+    is_source_here(ring, file, dual_write, count, older, first)
+        && is_source_here(ring, file, dual_write, count, older, second)
 }
 
 fn is_source_here(
@@ -257,14 +247,17 @@ fn is_source_here(
     file: &Registers,
     dual_write: bool,
     count: usize,
+    older: &Older,
     source: Option<u8>,
 ) -> bool
-    requires { count ≤ length ring.now.items }
+    requires count { count ≤ length ring.now.items }
+    requires older { IsOlder dual_write file.now (take count ring.now.items) older.now }
     ensures { result ≡ flight.is_here
         (flight.source_behind dual_write file.now (take count ring.now.items) source) }
 {
     match source {
         None => true,
+        Some(register) if register < 32 => !older.waits[usize::from(register)],
         Some(register) => is_here(operand_behind(ring, file, dual_write, count, register)),
     }
 }
