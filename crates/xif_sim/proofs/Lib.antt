@@ -1,1 +1,3 @@
 pub mod Extends
+mod Turned
+mod Whole
