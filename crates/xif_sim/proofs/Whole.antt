@@ -1,5 +1,6 @@
 -- The lists that a run is told into, the oldest first, are those of the run.
-use Rattle.std.proofs.Common.{◌≡◌, ◌++◌, List, [], ◌∷◌, Bool, true, false, Result, Ok, Err, IfOk, Option, reverse, filter_map, option_to_list, refl, sym, ap, ◌∙◌, subst, arith}
+use Rattle.std.proofs.Common.{◌≡◌, ◌++◌, List, [], ◌∷◌, Bool, true, false, Option, None, Some, reverse, filter_map, option_to_list, refl, sym, ap, ◌∙◌, subst}
+use Rattle.std.specs.List.{cons_option}
 use Rattle.std.proofs.lemmas.List.{reverse-append, reverse-reverse}
 use Rattle.std.proofs.lemmas.List.Elements.{filter_map-append}
 use Rattle.inorder_machine.specs.declared.line.Retire.{Retire}
@@ -20,11 +21,15 @@ lists-more m setup first old asked new taught told buses logs t h g =
     (subst (λ ls. Tells m setup first new taught (told.0 ∷ reverse buses) ls) (sym (reverse-append logs (told.1 ∷ [])))
     (tells-more m setup first old asked new taught told (reverse buses) (reverse logs) t h g))
 
+as-list : {X : Type 0} → (o : Option X) → option_to_list o ≡ cons_option o []
+as-list None = refl
+as-list (Some x) = refl
+
 pub retired-more : (logs : List CycleLog) (log : CycleLog) (retired : List Retire) → retired ≡ filter_map retired_in logs → retired ++ option_to_list log.retired ≡ filter_map retired_in (logs ++ log ∷ [])
-retired-more logs log retired h = ap (λ rs. rs ++ option_to_list log.retired) h ∙ go log.retired refl ∙ sym (filter_map-append retired_in logs (log ∷ []))
-  where
-    go : (o : Option Retire) → log.retired ≡ o → filter_map retired_in logs ++ option_to_list log.retired ≡ filter_map retired_in logs ++ filter_map retired_in (log ∷ [])
-    go o e = grind (arith, common_steps)
+retired-more logs log retired h =
+    ap (λ rs. rs ++ option_to_list log.retired) h
+    ∙ ap (λ rs. filter_map retired_in logs ++ rs) (as-list log.retired)
+    ∙ sym (filter_map-append retired_in logs (log ∷ []))
 
 -- all of them
 pub whole-lists : {P : Type 0} → (m : Meaning P) (setup : Setup) (first : P) (s : Simulating) (now : P) (buses : List Bus) (logs : List CycleLog) (retired : List Retire) → is_over s ≡ true → Tells m setup first s now (reverse buses) (reverse logs) → retired ≡ filter_map retired_in logs → let run : Run = record { buses = buses; logs = logs; end = end_by s.machines.core.stopped; pc = s.machines.core.pc; registers = s.machines.core.registers; memory = s.machines.core.memory; units = units_of s.machines.engine 0; retired = retired } in run ≡ run_of m setup first
@@ -45,8 +50,3 @@ whole-lists m setup first s now buses logs retired h t r =
 pub is-false : (b : Bool) → (b ≡ true → ⊥) → b ≡ false
 is-false true h = absurd (h refl)
 is-false false h = refl
-
--- what holds of the value of a result
-pub ok-weaker : {X E : Type 0} (Q R : X → Type 0) → ((x : X) → Q x → R x) → (r : Result X E) → IfOk r Q → IfOk r R
-ok-weaker Q R h (Ok x) q = h x q
-ok-weaker Q R h (Err e) q = q

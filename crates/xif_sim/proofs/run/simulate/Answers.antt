@@ -1,5 +1,6 @@
-use Rattle.std.proofs.Common.{◌≡◌, ◌++◌, [], ◌∷◌, All, List, true, false, reverse, filter_map, rules, ap, subst, sym, ◌∙◌}
+use Rattle.std.proofs.Common.{◌≡◌, ◌++◌, [], ◌∷◌, All, List, true, false, true≢false, reverse, filter_map, rules, ap, subst, sym, ◌∙◌}
 use Rattle.std.proofs.lemmas.List.Elements.{All-push}
+use Rattle.std.proofs.lemmas.Result.{IfOk-weaker}
 use Rattle.xif_base.specs.declared.params.Params.{Params}
 use Rattle.inorder_machine.specs.declared.line.Retire.{Retire}
 use Rattle.xif_signals.specs.declared.bus.Bus.{Bus}
@@ -7,7 +8,7 @@ use Rattle.xif_signals.specs.Bus.{FitsWidths}
 use Rattle.cycle_spec.specs.declared.log.CycleLog.{CycleLog}
 use Rattle.cycle_spec.specs.Run.{Run, Meaning, run_of}
 use Rattle.xif_sim.specs.Simulating.{Simulating, meaning, is_over, GoesOn, Tells}
-use Rattle.xif_sim.proofs.Whole.{lists-more, retired-more, whole-lists, is-false, ok-weaker}
+use Rattle.xif_sim.proofs.Whole.{lists-more, retired-more, whole-lists, is-false}
 use Rattle.xif_sim.proofs.run.simulate.Goals as goal
 
 pub loop-bus-preserved : goal.loop-bus-preserved
@@ -20,7 +21,7 @@ loop-bus-preserved g c =
     let log = c.in-Some.log in
     let pushed = c.in_ok-push.ensures in
     let m = meaning g.P.Predictor.answer g.P.Predictor.after in
-    let not_over : is_over was.simulation ≡ false = is-false (is_over was.simulation) (λ over. absurd (c.in-Some.ensures.over.1 over)) in
+    let not_over : is_over was.simulation ≡ false = is-false (is_over was.simulation) (λ over. true≢false (c.in-Some.ensures.over.1 over)) in
     let tells : Tells m setup first new.self new.predictor (reverse (was.told.buses ++ bus ∷ [])) (reverse (was.told.logs ++ log ∷ [])) =
     lists-more m setup first was.simulation was.predictor new.self new.predictor (bus, log) was.told.buses was.told.logs was.invariant.tells not_over c.in-Some.ensures.goes_on in
     let fits : FitsWidths setup.params bus = subst (λ p. FitsWidths p bus) was.invariant.params c.in-Some.ensures.fits in
@@ -44,12 +45,12 @@ returns-clause-run g c =
     let over : is_over was.simulation ≡ true = search rules in
     let tells : Tells m setup first s was.predictor (reverse was.told.buses) (reverse was.told.logs) =
     subst (λ s. Tells m setup first s was.predictor (reverse was.told.buses) (reverse was.told.logs)) (sym stays) was.invariant.tells in
-    ok-weaker _ (λ (run : Run). run ≡ run_of m setup first)
+    IfOk-weaker c.run_after.result _ (λ (run : Run). run ≡ run_of m setup first)
     (λ run e. e ∙ whole-lists m setup first s was.predictor was.told.buses was.told.logs was.told.retired (ap is_over stays ∙ over) tells was.invariant.retired)
-    c.run_after.result c.run_after.ensures
+    c.run_after.ensures
 
 pub returns-clause-fits : goal.returns-clause-fits
 returns-clause-fits g c =
-    ok-weaker _ (λ (run : Run). All (FitsWidths c.args.setup.now.params) run.buses)
+    IfOk-weaker c.run_after.result _ (λ (run : Run). All (FitsWidths c.args.setup.now.params) run.buses)
     (λ run e. subst (All (FitsWidths c.args.setup.now.params)) (sym (ap (λ (r : Run). r.buses) e)) c.loop-bus.invariant.fits)
-    c.run_after.result c.run_after.ensures
+    c.run_after.ensures
