@@ -107,7 +107,7 @@ impl Engine {
 
     /// What the coprocessors drive in a cycle in which the core drives `cpu`.
     pub fn drive(&self, cpu: &CpuOut) -> CopOut
-        ensures drives { result ≡ engine_drive self.now cpu.now }
+        ensures value { result ≡ engine_drive self.now cpu.now }
         ensures fits { FitsCopOut self.now.params result }
 
         // The parameters are in their ranges.
