@@ -1,1 +1,4 @@
 pub mod Extends
+mod Turned
+mod Whole
+mod Widths

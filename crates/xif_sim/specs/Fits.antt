@@ -1,6 +1,6 @@
 -- Internal: what holds of the parts of a simulation. These are conditions of the code; nothing here
 -- has to be believed.
-use Rattle.std.specs.Prelude.{◌≡◌, ◌<◌, ◌≤◌, ◌+◌, ◌^◌, ◌×◌, ℕ, Bool, false}
+use Rattle.std.specs.Prelude.{◌≡◌, ◌<◌, ◌≤◌, ◌+◌, ◌^◌, ℕ, Bool, false}
 use Rattle.cycle_spec.specs.Counts.{IsCountedBy}
 use Rattle.cycle_spec.specs.State.{Core, Engine}
 

@@ -1,5 +1,5 @@
 -- A simulation cycle by cycle: what it has told of a run, and what is to come.
-use Rattle.std.specs.Prelude.{◌≡◌, ◌×◌, ℕ, ◌+◌, ◌-◌, ◌==◌, ◌&&◌, ◌||◌, Bool, true, false, if◌then◌else◌, List, Option}
+use Rattle.std.specs.Prelude.{◌≡◌, ◌<◌, ℕ, ◌+◌, ◌-◌, ◌==◌, ◌&&◌, ◌||◌, Bool, true, false, if◌then◌else◌, List, Option}
 use Rattle.xif_signals.specs.declared.bus.Bus.{Bus}
 use Rattle.cycle_spec.specs.declared.log.CycleLog.{CycleLog}
 use Rattle.cycle_spec.specs.Choices.{choices}
@@ -86,7 +86,9 @@ ended_from m s p =
     then cycles_until m is_empty s.left p
     else drained m s.drain_limit (cycles_until m is_stopped s.left p)
 
--- It has told these buses and logs, the newest first, of the run of a setup and a predictor.
+-- It has told these buses and logs, the newest first, of the run of a setup and a predictor, and a
+-- drain of it may take a cycle.
 pub record Tells {P : Type 0} (m : Meaning P) (setup : Setup) (first : P) (s : Simulating) (now : P)
     (buses : List Bus) (logs : List CycleLog) : Type 0 where
   pub run : progress_of m setup first ≡ ended_from m s (progress_at s now buses logs)
+  pub drain : 0 < s.drain_limit

@@ -1,5 +1,5 @@
 //! A run, told cycle by cycle.
-ghost use Rattle.std.specs.Prelude.{◌≡◌, ◌<◌, ◌≤◌, ◌+◌, ◌*◌, ◌^◌, ◌×◌, ◌↔◌, IfOk, IfSome, IsNone, IfNone, IsTrue, false};
+ghost use Rattle.std.specs.Prelude.{◌≡◌, ◌<◌, ◌≤◌, ◌+◌, ◌*◌, ◌^◌, ◌↔◌, IfOk, IfSome, IsNone, IfNone, IsTrue, false};
 ghost use Rattle.xif_signals.specs.Bus.{FitsWidths};
 ghost use Rattle.cycle_spec.specs.Engine.{units_of};
 ghost use Rattle.xif_drive.specs.Scripts.{IsLawful, largest_of};
