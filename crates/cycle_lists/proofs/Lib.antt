@@ -1,0 +1,4 @@
+pub mod Tests
+pub mod Every
+pub mod Filters
+pub mod Places
