@@ -1,11 +1,10 @@
 -- The first and the last element of a list that pass a test, and changes at one place.
-use Rattle.std.proofs.Common.{◌≡◌, ◌||◌, ◌++◌, ℕ, Bool, true, false, cond, Option, Some, None, List, [], ◌∷◌, map, filter, refl, sym, ap, ◌∙◌, subst}
+use Rattle.std.proofs.Common.{◌≡◌, ◌||◌, ◌++◌, Bool, true, false, cond, Option, Some, None, List, [], ◌∷◌, map, filter, refl, sym, ap, ◌∙◌}
 use Rattle.std.specs.Prelude.{find}
 use Rattle.std.specs.List.{list_any, last_or}
-use Rattle.cycle_lists.specs.Lists.{Each, Pairs, FirstAt, LastAt}
+use Rattle.cycle_lists.specs.Lists.{Each, FirstAt, LastAt}
 use Rattle.cycle_lists.proofs.Tests.{Of, some-is, or-false_left, or-false_right}
-use Rattle.cycle_lists.proofs.Every.{Each-append}
-use Rattle.cycle_lists.proofs.Filters.{filter-at, filter-none, filter-gone}
+use Rattle.cycle_lists.proofs.Filters.{filter-at, filter-none}
 
 -- ---- the first
 
