@@ -1,9 +1,9 @@
 -- The first and the last element of a list that pass a test, and changes at one place.
 use Rattle.std.proofs.Common.{◌≡◌, ◌||◌, ◌++◌, Bool, true, false, cond, Option, Some, None, List, [], ◌∷◌, map, filter, refl, sym, ap, ◌∙◌}
-use Rattle.std.specs.Prelude.{find}
+use Rattle.std.specs.Prelude.{find, IfSome}
 use Rattle.std.specs.List.{list_any, last_or}
 use Rattle.cycle_lists.specs.Lists.{Each, FirstAt, LastAt}
-use Rattle.cycle_lists.proofs.Tests.{Of, some-is, or-false_left, or-false_right}
+use Rattle.cycle_lists.proofs.Tests.{some-is, or-false_left, or-false_right}
 use Rattle.cycle_lists.proofs.Filters.{filter-at, filter-none}
 
 -- ---- the first
@@ -26,10 +26,10 @@ first-none test (y ∷ ys) h = go (test y) refl h (λ k. first-none test ys k)
     go true e k ih = cc
     go false e k ih = (e, ih k)
 
-pub of-first : {A : Type 0} (test : A → Bool) (xs : List A) → Of (FirstAt test xs) (find test xs)
-of-first {A = A} test xs = go (find test xs) refl
+pub first-if : {A : Type 0} (test : A → Bool) (xs : List A) → IfSome (find test xs) (FirstAt test xs)
+first-if {A = A} test xs = go (find test xs) refl
   where
-    go : (o : Option A) → find test xs ≡ o → Of (FirstAt test xs) o
+    go : (o : Option A) → find test xs ≡ o → IfSome o (FirstAt test xs)
     go None h = tt
     go (Some x) h = first-at test xs x h
 

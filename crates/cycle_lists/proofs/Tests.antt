@@ -1,6 +1,6 @@
 -- Small facts of tests, numbers and options.
 use Rattle.std.proofs.Common.{◌≡◌, ◌<◌, ◌≤◌, ◌&&◌, ◌||◌, not, ℕ, Bool, true, false, Option, Some, None, refl, sym, ap, ◌∙◌, subst, arith}
-use Rattle.std.specs.Prelude.{nat_le, is_some}
+use Rattle.std.specs.Prelude.{nat_le, is_some, IsSome, IfSome}
 use Rattle.std.proofs.lemmas.Bool.Decides.{nat_tests}
 
 pub and-left : (a b : Bool) → (a && b) ≡ true → a ≡ true
@@ -86,16 +86,6 @@ le-above a b h = grind (arith, nat_tests)
 
 -- ---- options
 
--- there is one
-abbrev pub Has : {A : Type 0} → Option A → Type 0
-Has None = ⊥
-Has (Some x) = Unit {0}
-
--- it holds of the one that is there, if there is one
-abbrev pub Of : {A : Type 0} → (A → Type 0) → Option A → Type 0
-Of P None = Unit {0}
-Of P (Some x) = P x
-
 pub some-is : {A : Type 0} (x y : A) → Some x ≡ Some y → x ≡ y
 some-is x y h = cc
 
@@ -105,26 +95,16 @@ same-some o x y h k = some-is x y (sym h ∙ k)
 pub none-some : {A : Type 0} (o : Option A) (x : A) → o ≡ None → o ≡ Some x → ⊥
 none-some o x h k = cc
 
-pub has-some : {A : Type 0} (o : Option A) → Has o → is_some o ≡ true
-has-some None h = absurd h
-has-some (Some x) h = refl
+pub not-some : {A : Type 0} (o : Option A) → is_some o ≡ false → IsSome o → ⊥
+not-some o h k = not-both (is_some o) h k
 
-pub some-has : {A : Type 0} (o : Option A) → is_some o ≡ true → Has o
-some-has None h = cc
-some-has (Some x) h = tt
+pub no-some : {A : Type 0} (o : Option A) → (IsSome o → ⊥) → is_some o ≡ false
+no-some o h = false-or (is_some o) h
 
-pub none-has : {A : Type 0} (o : Option A) → is_some o ≡ false → Has o → ⊥
-none-has None h k = k
-none-has (Some x) h k = cc
+pub some-from : {A : Type 0} (P Q : A → Type 0) (o : Option A) → ((x : A) → P x → Q x) → IfSome o P → IfSome o Q
+some-from P Q None k h = tt
+some-from P Q (Some x) k h = k x h
 
-pub has-none : {A : Type 0} (o : Option A) → (Has o → ⊥) → is_some o ≡ false
-has-none None h = refl
-has-none (Some x) h = absurd (h tt)
-
-pub of-from : {A : Type 0} (P Q : A → Type 0) (o : Option A) → ((x : A) → P x → Q x) → Of P o → Of Q o
-of-from P Q None k h = tt
-of-from P Q (Some x) k h = k x h
-
-pub of-at : {A : Type 0} (P : A → Type 0) (o : Option A) (x : A) → o ≡ Some x → Of P o → P x
-of-at P None x h k = cc
-of-at P (Some y) x h k = let same : y ≡ x = some-is y x h in subst P same k
+pub some-at : {A : Type 0} (P : A → Type 0) (o : Option A) (x : A) → o ≡ Some x → IfSome o P → P x
+some-at P None x h k = cc
+some-at P (Some y) x h k = let same : y ≡ x = some-is y x h in subst P same k
