@@ -1,2 +1,4 @@
 pub mod Facts
 pub mod Matching
+pub mod Carrying
+pub mod Starting
