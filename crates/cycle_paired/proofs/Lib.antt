@@ -4,3 +4,5 @@ pub mod Carrying
 pub mod Starting
 pub mod Answering
 pub mod Sending
+pub mod Growing
+pub mod Releasing
