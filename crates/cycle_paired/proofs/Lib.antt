@@ -6,3 +6,4 @@ pub mod Answering
 pub mod Sending
 pub mod Growing
 pub mod Releasing
+pub mod Cutting
