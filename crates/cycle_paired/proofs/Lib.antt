@@ -7,3 +7,5 @@ pub mod Sending
 pub mod Growing
 pub mod Releasing
 pub mod Cutting
+pub mod Finishing
+pub mod Executing
