@@ -9,3 +9,5 @@ pub mod Releasing
 pub mod Cutting
 pub mod Finishing
 pub mod Executing
+pub mod Applying
+pub mod Ending
