@@ -24,7 +24,7 @@ use Rattle.cycle_spec.specs.declared.use_of.Use.{Use}
 use Rattle.cycle_spec.specs.Flight.{is_row, is_unknown, is_store, is_store_row, is_stopping, is_safe, is_safe_kind, is_safe_row, with_line, with_stop, with_outcome}
 use Rattle.cycle_lists.specs.Lists.{Each, Pairs}
 use Rattle.cycle_lists.specs.Order.{Before}
-use Rattle.cycle_lists.proofs.Tests.{and-left, and-right, and-false, or-false, not-both, false-or}
+use Rattle.cycle_lists.proofs.Tests.{and-left, and-right, and-false, or-false, not-both, false-or, not-in}
 use Rattle.cycle_lists.proofs.Every.{Each-both, Each-map2, Pairs-map1}
 use Rattle.cycle_lists.proofs.Filters.{filter-map}
 use Rattle.cycle_lists.proofs.Order.{mapped, leaves-outcome}
@@ -37,7 +37,6 @@ pub record Exec (o : Stepped) (e : Entry) : Type 0 where
   pub instr : Instr
   pub kind_is : e.kind ≡ Local instr
   pub not_done : e.done ≡ false
-  pub running : is_stopping e ≡ false
   pub memory : Region
   pub at_word : At
   pub a : ℕ
@@ -158,12 +157,15 @@ entry-outcome s o e x ok = by-number IsEntry s o e ok retires stops
 safe-outcome : (s : ℕ) (o : Stepped) (e : Entry) → Execs s o e → IsEntry e → is_safe e ≡ true → is_safe (with_outcome s o e) ≡ true
 safe-outcome s o e x ok h = by-number (λ y. is_safe y ≡ true) s o e h retires stops
   where
+    calm : is_stopping e ≡ false
+    calm = not-in (is_stopping e) (and-left (not (is_stopping e)) (is_safe_kind e.kind e) h)
+
     runs : (q : e.seq ≡ s) → RunsOn (row_line (x q).instr.row).meaning o
     runs q =
         let k = x q in
         let kind : is_safe_kind e.kind e ≡ true = and-right (not (is_stopping e)) (is_safe_kind e.kind e) h in
         let row : is_safe_row (kind_of k.instr) false ≡ true = sym (ap (λ i. is_safe_kind i e) k.kind_is ∙ ap (is_safe_row (kind_of k.instr)) k.not_done) ∙ kind in
-        let no : is_stop_row (kind_of k.instr) ≡ false = false-or (is_stop_row (kind_of k.instr)) (λ z. not-both (is_stopping e) k.running (ok.stops (ap (λ i. is_row is_stop_row i) k.kind_is ∙ z))) in
+        let no : is_stop_row (kind_of k.instr) ≡ false = false-or (is_stop_row (kind_of k.instr)) (λ z. not-both (is_stopping e) calm (ok.stops (ap (λ i. is_row is_stop_row i) k.kind_is ∙ z))) in
         subst (RunsOn (row_line k.instr.row).meaning) (sym k.is_it) (runs-on (row_line k.instr.row).meaning k.memory k.at_word k.instr k.a k.b row no)
 
     retires : e.seq ≡ s → (line : Retire) → o ≡ Retired line → is_safe (line-by true line e) ≡ true
@@ -171,7 +173,7 @@ safe-outcome s o e x ok h = by-number (λ y. is_safe y ≡ true) s o e h retires
         let k = x q in
         let r = runs q in
         ap (λ i. not (is_stopping e) && is_safe_kind i (line-by true line e)) k.kind_is ∙ ap (λ d. not (is_stopping e) && is_safe_row (kind_of k.instr) (d || true)) k.not_done
-        ∙ ap (λ d. not (is_stopping e) && d) r.safe ∙ ap (λ d. not d && true) k.running
+        ∙ ap (λ d. not (is_stopping e) && d) r.safe ∙ ap (λ d. not d && true) calm
 
     stops : e.seq ≡ s → (cause : StopCause) → o ≡ Stop cause → is_safe (stop-by true cause e) ≡ true
     stops q cause z = let r = runs q in absurd (no-line cause r.line (sym z ∙ r.is_it))

@@ -11,3 +11,4 @@ pub mod Finishing
 pub mod Executing
 pub mod Applying
 pub mod Ending
+pub mod Choosing
