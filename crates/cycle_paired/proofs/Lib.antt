@@ -12,3 +12,5 @@ pub mod Executing
 pub mod Applying
 pub mod Ending
 pub mod Choosing
+pub mod Staging
+pub mod Deciding
