@@ -14,3 +14,4 @@ pub mod Ending
 pub mod Choosing
 pub mod Staging
 pub mod Deciding
+pub mod Lasting
