@@ -15,3 +15,5 @@ pub mod Choosing
 pub mod Staging
 pub mod Deciding
 pub mod Lasting
+pub mod Cycling
+pub mod Same
