@@ -17,3 +17,4 @@ pub mod Deciding
 pub mod Lasting
 pub mod Cycling
 pub mod Same
+pub mod Closing
