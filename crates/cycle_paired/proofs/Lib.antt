@@ -18,3 +18,4 @@ pub mod Lasting
 pub mod Cycling
 pub mod Same
 pub mod Closing
+pub mod Always
