@@ -1,15 +1,13 @@
 -- Core and engine are paired in every state that they come to.
-use Rattle.std.proofs.Common.{◌≡◌, ◌<◌, ℕ, Bool, true, false, List, [], ◌∷◌, Option, Some, None, refl, sym, ap, ◌∙◌, subst}
+use Rattle.std.proofs.Common.{◌≡◌, ◌<◌, ℕ, false, List, [], ◌∷◌, None, refl, sym, ap, ◌∙◌, subst}
 use Rattle.std.specs.Prelude.{IfSome}
-use Rattle.xif_base.specs.declared.params.Params.{Params}
 use Rattle.cycle_spec.specs.declared.entry.Entry.{Entry}
-use Rattle.cycle_spec.specs.declared.turn.Transaction.{Transaction}
 use Rattle.cycle_spec.specs.declared.use_of.Use.{Use}
 use Rattle.cycle_spec.specs.State.{Core}
 use Rattle.cycle_spec.specs.Cycle.{Machines}
 use Rattle.cycle_spec.specs.Run.{Setup, new_machines}
 use Rattle.cycle_lists.specs.Lists.{Each, Pairs}
-use Rattle.cycle_lists.specs.Order.{Before, InOrder}
+use Rattle.cycle_lists.specs.Order.{Before}
 use Rattle.cycle_paired.specs.Paired.{live_entries, live_uses, Match, IsEntry, Behind, Offers, Paired}
 use Rattle.cycle_paired.specs.Reached.{begins_drain, resumes, Reached, First, Cycled, Drained, Resumed}
 use Rattle.cycle_paired.proofs.Closing.{cycle-paired}

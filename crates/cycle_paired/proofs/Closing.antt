@@ -1,13 +1,12 @@
 -- Every cycle keeps core and engine paired.
-use Rattle.std.proofs.Common.{◌≡◌, ◌<◌, ◌&&◌, ◌+◌, ℕ, Bool, true, false, List, Option, Some, None, refl, sym, ap, ◌∙◌, subst}
-use Rattle.std.specs.Prelude.{is_some, IfSome}
+use Rattle.std.proofs.Common.{◌≡◌, ◌&&◌, ◌+◌, ℕ, List, None, refl, sym, subst}
+use Rattle.std.specs.Prelude.{is_some}
 use Rattle.xif_signals.specs.declared.bus.Bus.{Bus}
 use Rattle.xif_signals.specs.declared.bus.CpuIn.{CpuIn}
 use Rattle.xif_signals.specs.Bus.{join_of}
 use Rattle.cycle_spec.specs.declared.choices.Choices.{Choices}
 use Rattle.cycle_spec.specs.declared.entry.Entry.{Entry}
-use Rattle.cycle_spec.specs.declared.use_of.Use.{Use}
-use Rattle.cycle_spec.specs.State.{Core, Engine}
+use Rattle.cycle_spec.specs.State.{Engine}
 use Rattle.cycle_spec.specs.Choices.{choices}
 use Rattle.cycle_spec.specs.Core.{cpu_out, execute_step, retire_step, with_dispatch, dispatch_of, settled_entries, core_after}
 use Rattle.cycle_spec.specs.Engine.{issue_start, issue_ready, response_hit, offered_use, use_or, writeback_of, engine_drive, engine_clock, ready_in_harts}
@@ -17,8 +16,8 @@ use Rattle.cycle_lists.proofs.Order.{core-kept}
 use Rattle.cycle_paired.specs.Paired.{response_of, Offers, Paired}
 use Rattle.cycle_paired.proofs.Choosing.{Sound, sound}
 use Rattle.cycle_paired.proofs.Lasting.{Last, result_entries, result_uses, waiting_after}
-use Rattle.cycle_paired.proofs.Cycling.{facts_of, cpu_for, answers, gives, half_entries, half_uses, Half, half, result_write, whole}
-use Rattle.cycle_paired.proofs.Same.{ResultOn, settled-is, uses-are, waits-for}
+use Rattle.cycle_paired.proofs.Cycling.{facts_of, cpu_for, answers, gives, half_entries, half_uses, half, result_write, whole}
+use Rattle.cycle_paired.proofs.Same.{settled-is, waits-for}
 
 -- the bus as the core sees it
 abbrev pub bus_for : (hart : ℕ) → Engine → Choices → CpuIn → Bus

@@ -1,6 +1,6 @@
 -- Retirement and dispatch.
-use Rattle.std.proofs.Common.{◌≡◌, ◌<◌, ◌==◌, ◌&&◌, ◌||◌, ◌+◌, ◌++◌, ℕ, Bool, true, false, cond, not, List, [], ◌∷◌, map, filter, drop, Option, Some, None, refl, sym, ap, ◌∙◌, subst, arith, append-nil}
-use Rattle.std.specs.Prelude.{is_some, IsSome, ⊤}
+use Rattle.std.proofs.Common.{◌≡◌, ◌++◌, ℕ, Bool, true, false, cond, List, [], ◌∷◌, drop, Option, Some, refl, sym, ap, ◌∙◌, subst, append-nil}
+use Rattle.std.specs.Prelude.{is_some, ⊤}
 use Rattle.rv32_table.specs.declared.instr.Kind.{Kind}
 use Rattle.rv32_table.specs.declared.instr.Kind.TheVariants as row
 use Rattle.rv32_table.specs.Instr.{kind_of}
@@ -10,7 +10,7 @@ use Rattle.cycle_spec.specs.declared.entry.Entry.{Entry}
 use Rattle.cycle_spec.specs.declared.entry.EntryKind.{EntryKind}
 use Rattle.cycle_spec.specs.declared.entry.EntryKind.TheVariants.{Local, Unknown, Nowhere}
 use Rattle.cycle_spec.specs.declared.use_of.Use.{Use}
-use Rattle.cycle_spec.specs.Flight.{is_row, is_unknown, is_open, is_safe, stop_row, stop_by, kind_at}
+use Rattle.cycle_spec.specs.Flight.{is_row, is_open, stop_row, stop_by, kind_at}
 use Rattle.cycle_spec.specs.Core.{entry_at}
 use Rattle.cycle_lists.specs.Lists.{Each, Pairs}
 use Rattle.cycle_lists.proofs.Tests.{not-both, false-or}

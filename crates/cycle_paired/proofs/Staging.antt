@@ -1,28 +1,25 @@
 -- The first steps of a cycle: offer, answer, registers.
-use Rattle.std.proofs.Common.{◌≡◌, ◌≢◌, ◌<◌, ◌==◌, ◌&&◌, ◌||◌, ◌+◌, ◌++◌, ℕ, Bool, true, false, cond, not, List, [], ◌∷◌, map, filter, Option, Some, None, refl, sym, ap, ◌∙◌, subst, arith}
-use Rattle.std.specs.Prelude.{is_some, IsSome, IfSome}
+use Rattle.std.proofs.Common.{◌≡◌, ◌≢◌, ◌<◌, ◌&&◌, ◌+◌, ◌++◌, ℕ, Bool, true, false, cond, not, List, [], ◌∷◌, map, Option, Some, None, sym, ap, ◌∙◌, subst, arith}
+use Rattle.std.specs.Prelude.{is_some, IfSome}
 use Rattle.std.specs.Option.{option_map_or}
-use Rattle.xif_base.specs.declared.params.Key.{Key}
 use Rattle.coproc_config.specs.declared.accept.Hit.{Hit}
 use Rattle.xif_signals.specs.declared.bus.CpuOut.{CpuOut}
-use Rattle.xif_session.specs.declared.fact.Response.{Response}
-use Rattle.cycle_spec.specs.declared.choices.Presented.{Presented}
 use Rattle.cycle_spec.specs.declared.entry.Entry.{Entry}
 use Rattle.cycle_spec.specs.declared.turn.Transaction.{Transaction}
 use Rattle.cycle_spec.specs.declared.use_of.Use.{Use}
 use Rattle.cycle_spec.specs.Flight.{is_open, is_waiting, with_response, with_sent}
 use Rattle.cycle_spec.specs.Engine.{issue_key, latest, start_of, with_answer, with_operands, given_to}
-use Rattle.cycle_lists.specs.Lists.{Each, Pairs, FirstAt}
+use Rattle.cycle_lists.specs.Lists.{Each, FirstAt}
 use Rattle.cycle_lists.proofs.Tests.{not-both}
 use Rattle.cycle_lists.proofs.Every.{Each-from, Each-at}
 use Rattle.cycle_paired.specs.Paired.{is_live, response_of, IsEntry, Offers}
 use Rattle.cycle_paired.proofs.Facts.{Joint, waiting-closed, waiting-live}
 use Rattle.cycle_paired.proofs.Matching.{latest-at}
 use Rattle.cycle_paired.proofs.Carrying.{Carries, carries-map, leaves-answer, leaves-operands}
-use Rattle.cycle_paired.proofs.Starting.{started_in, OffersWord, Started, starting}
+use Rattle.cycle_paired.proofs.Starting.{started_in, OffersWord, starting}
 use Rattle.cycle_paired.proofs.Answering.{mark, Offered, Answered, IsNew, answering}
 use Rattle.cycle_paired.proofs.Sending.{sending, offered-sent}
-use Rattle.cycle_paired.proofs.Growing.{AllGrown, grown-same, grown-answered, grown-sent, GrownAt, grown-at, OnlyOpen, only-open}
+use Rattle.cycle_paired.proofs.Growing.{AllGrown, grown-same, grown-answered, grown-sent, grown-at, OnlyOpen, only-open}
 
 -- Where a cycle has got to, from the entries and uses at its start; r is the number of the word that
 -- is offered.

@@ -1,8 +1,7 @@
 -- The use of the word that is offered: its transaction goes on, or it starts.
-use Rattle.std.proofs.Common.{◌≡◌, ◌≢◌, ◌<◌, ◌≤◌, ◌==◌, ◌&&◌, ◌+◌, ◌++◌, ℕ, Bool, true, false, cond, not, List, [], ◌∷◌, filter, Option, Some, None, refl, sym, ap, ◌∙◌, subst, arith, append-nil}
+use Rattle.std.proofs.Common.{◌≡◌, ◌<◌, ◌≤◌, ◌==◌, ◌&&◌, ◌+◌, ◌++◌, ℕ, Bool, true, false, not, List, [], ◌∷◌, filter, Option, Some, None, refl, sym, ap, ◌∙◌, subst, arith, append-nil}
 use Rattle.std.specs.Prelude.{IsSome, IfSome}
 use Rattle.std.proofs.lemmas.Bool.{eqb-true}
-use Rattle.xif_base.specs.declared.params.Key.{Key}
 use Rattle.xif_signals.specs.declared.bus.CpuOut.{CpuOut}
 use Rattle.xif_session.specs.declared.fact.Decision.{Decision}
 use Rattle.xif_session.specs.declared.fact.Decision.TheVariants.{Undecided, Released, Killed}
@@ -11,14 +10,14 @@ use Rattle.cycle_spec.specs.declared.entry.Entry.{Entry}
 use Rattle.cycle_spec.specs.declared.turn.Transaction.{Transaction}
 use Rattle.cycle_spec.specs.declared.use_of.Use.{Use}
 use Rattle.cycle_spec.specs.Flight.{is_open}
-use Rattle.cycle_spec.specs.Engine.{has_key, has_start, is_accepted, issue_key, is_offered_on, goes_on_in, new_use, with_start, start_step}
+use Rattle.cycle_spec.specs.Engine.{has_key, has_start, is_accepted, issue_key, is_offered_on, goes_on_in, new_use, start_step}
 use Rattle.cycle_lists.specs.Lists.{Each, Pairs, FirstAt}
 use Rattle.cycle_lists.specs.Order.{Before}
-use Rattle.cycle_lists.proofs.Tests.{and-left, and-right, and-true, not-both, not-in, not-out, true-or, some-is}
+use Rattle.cycle_lists.proofs.Tests.{and-left, and-right, not-both, not-in, not-out}
 use Rattle.cycle_lists.proofs.Every.{Each-front, Each-back, Each-from, Each-both, Each-filter, Each-passed, Each-at, Each-here, Each-unfilter, Pairs-filter, Pairs-front, Pairs-older, Pairs-younger}
 use Rattle.cycle_lists.proofs.Filters.{filter-all, filter-past, filter-swap}
 use Rattle.cycle_lists.proofs.Places.{any-at}
-use Rattle.cycle_paired.specs.Paired.{live_entries, is_live_use, live_uses, Match, IsEntry, IsUnanswered, IsUse, Older, open_word, IsOffered, Offers}
+use Rattle.cycle_paired.specs.Paired.{live_entries, is_live_use, live_uses, Match, IsEntry, IsUnanswered, IsUse, Older, Offers}
 use Rattle.cycle_paired.proofs.Facts.{Joint, open-unknown, open-dead, open_word-first, other-ids, ready-live, unanswered-dead}
 use Rattle.cycle_paired.proofs.Matching.{Match-uses, key-here, key-other}
 use Rattle.cycle_paired.proofs.Carrying.{Carries, carries-filter, carries-push}

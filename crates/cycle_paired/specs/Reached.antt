@@ -16,6 +16,8 @@ resumes m = record m { core = resumed m.core }
 -- and by drains that begin and end between cycles.
 pub data Reached (hart : ℕ) (first : Machines) : Machines → Type 0 where
   First : Reached hart first first
-  Cycled : (m : Machines) (answer : (pc word : ℕ) → ℕ) → Reached hart first m → (choices m.core).stop ≡ None → Reached hart first (cycle m hart answer)
+  Cycled
+      : (m : Machines) (answer : (pc word : ℕ) → ℕ) → Reached hart first m
+      → (choices m.core).stop ≡ None → Reached hart first (cycle m hart answer)
   Drained : (m : Machines) → Reached hart first m → Reached hart first (begins_drain m)
   Resumed : (m : Machines) → Reached hart first m → Reached hart first (resumes m)

@@ -5,10 +5,10 @@
 //! of other harts. `specs/Reached.antt` says which states core and engine come to. `pairing_law`
 //! says that they are paired in each of them, and `turn_law` that harts may take turns.
 //!
-//! The lemmas in `proofs/` are one file a step, each one step of both lists: `Starting`, `Answering`,
-//! `Sending`, `Releasing`, `Cutting`, `Finishing`, `Executing`, `Ending`, `Applying`. `Choosing` has
-//! what the core's choices say, `Staging`, `Deciding` and `Lasting` join the steps, and `Cycling`
-//! joins these for a whole cycle.
+//! The lemmas in `proofs/` are one file a step, each one step of both lists: `Starting`,
+//! `Answering`, `Sending`, `Releasing`, `Cutting`, `Finishing`, `Executing`, `Ending`, `Applying`.
+//! `Choosing` has what the core's choices say, `Staging`, `Deciding` and `Lasting` join the steps,
+//! and `Cycling` joins these for a whole cycle.
 #![tactic(auto)]
 
 mod laws;
