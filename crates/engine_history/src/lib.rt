@@ -1,0 +1,2 @@
+//! What the engine keeps is what the history of its session says.
+#![tactic(auto)]
