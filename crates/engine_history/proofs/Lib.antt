@@ -1,3 +1,4 @@
 pub mod Lists
 pub mod Keep
 pub mod Plain
+pub mod Fields
