@@ -207,7 +207,7 @@ on_if true false v h = cc
 on_if false g v h = cc
 
 -- the use on the issue channel
-head_named : (cycle : ℕ) (last b : Bus) (ls : List Life) → (issue_waits last ≡ true → HeadWaits (issue_key last) ls) → b.issue_valid ≡ true → HeadWaits (issue_key b) (with_start cycle last b ls)
+pub head_named : (cycle : ℕ) (last b : Bus) (ls : List Life) → (issue_waits last ≡ true → HeadWaits (issue_key last) ls) → b.issue_valid ≡ true → HeadWaits (issue_key b) (with_start cycle last b ls)
 head_named cycle last b ls w v = go (starts last b ls) refl
   where
     go : (t : Bool) → starts last b ls ≡ t → HeadWaits (issue_key b) (if t then new_life (issue_key b) cycle b.issue_instr ∷ ls else ls)

@@ -2,3 +2,5 @@ pub mod Lists
 pub mod Keep
 pub mod Plain
 pub mod Fields
+pub mod Kept
+pub mod Turns
