@@ -4,3 +4,4 @@ pub mod Plain
 pub mod Fields
 pub mod Kept
 pub mod Turns
+pub mod Settle

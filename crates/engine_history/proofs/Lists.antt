@@ -69,7 +69,7 @@ latest_is key (u ∷ us) = ap (λ xs. last_or None xs) (filter-push (has_key key
 
 -- ---- a test that only a use of a key passes
 
-any-push : (p : Use → Bool) (us : List Use) (u : Use) → list_any p (us ++ u ∷ []) ≡ (list_any p us || p u)
+pub any-push : (p : Use → Bool) (us : List Use) (u : Use) → list_any p (us ++ u ∷ []) ≡ (list_any p us || p u)
 any-push p [] u = go (p u)
   where
     go : (t : Bool) → (t || false) ≡ t
