@@ -5,3 +5,4 @@ pub mod Fields
 pub mod Kept
 pub mod Turns
 pub mod Settle
+pub mod Grown

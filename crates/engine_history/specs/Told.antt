@@ -97,11 +97,11 @@ all_complete hart (l ∷ older) =
     if counts hart l then later (complete_cycle l) (all_complete hart older)
     else all_complete hart older
 
--- The ready cycle of a use: it and all older ones that count are complete. No killed use is ready,
--- and none that wasn't accepted.
+-- The ready cycle of a use: it and all older ones of its hart that count are complete. No killed
+-- use is ready, and none that wasn't accepted.
 abbrev pub ready_cycle : Life → (older : List Life) → Option ℕ
 ready_cycle l older =
-    if counts l.key.hart l then all_complete l.key.hart (l ∷ older) else None
+    if counts l.key.hart l then later (complete_cycle l) (all_complete l.key.hart older) else None
 
 abbrev pub is_ready : Life → (older : List Life) → Bool
 is_ready l older = is_some (ready_cycle l older)
