@@ -6,3 +6,4 @@ pub mod Kept
 pub mod Turns
 pub mod Settle
 pub mod Grown
+pub mod Ready
