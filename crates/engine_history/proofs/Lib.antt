@@ -7,3 +7,5 @@ pub mod Turns
 pub mod Settle
 pub mod Grown
 pub mod Ready
+pub mod Lanes
+pub mod Units
