@@ -9,3 +9,4 @@ pub mod Grown
 pub mod Ready
 pub mod Lanes
 pub mod Units
+pub mod Applied
