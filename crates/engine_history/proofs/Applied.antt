@@ -30,7 +30,7 @@ push_dropped set h st key us u p =
     push_units set h st (others key us) u
     ∙ ap₂ (λ b s. if is_next h u && (is_complete u && not b) then (outcome_of set s u).state else s) (drop_blocked h key us p) (drop_units set h key st us p)
 
-one_dropped : (set : List UnitTable) (cycle h : ℕ) (st : List (List ℕ)) (key : Key) (us : List Use) (u : Use) → Passed h key us → ready_one set cycle h st (others key us) u ≡ ready_one set cycle h st us u
+pub one_dropped : (set : List UnitTable) (cycle h : ℕ) (st : List (List ℕ)) (key : Key) (us : List Use) (u : Use) → Passed h key us → ready_one set cycle h st (others key us) u ≡ ready_one set cycle h st us u
 one_dropped set cycle h st key us u p =
     ap₂ (λ b s. if is_next h u && (is_complete u && not b) then with_ready cycle (outcome_of set s u).result u else u) (drop_blocked h key us p) (drop_units set h key st us p)
 
@@ -56,7 +56,7 @@ all_idle hart m (l ∷ ls) h = go (counts hart l) refl h (λ k q. all_idle hart 
         (λ k. ap (λ t. is_some (if t then later (complete_cycle l) (all_complete l.key.hart ls) else None)) (ap (λ h. counts h l) q ∙ c) ∙ ap (λ k. is_some (later (complete_cycle l) (all_complete k ls))) q ∙ ap is_some h, ih x.other x.other_is)
     go false c h ih = (λ k. no_true (counts hart l) k c, ih m h)
 
-ready_idle : (l : Life) (older : List Life) (m : ℕ) → ready_cycle l older ≡ Some m → Idle l.key.hart older
+pub ready_idle : (l : Life) (older : List Life) (m : ℕ) → ready_cycle l older ≡ Some m → Idle l.key.hart older
 ready_idle l older m h = let y = (ready_is l older m h).later_are in all_idle l.key.hart y.other older y.other_is
 
 none_if : (r : Option ℕ) → is_some r ≡ true → is_none r ≡ false
@@ -86,7 +86,7 @@ idle_behind params set hart cycle st (l ∷ ls) (n ∷ now) e a o i =
 
 -- ---- a ready use makes the same as before
 
-outcome_same : (params : Params) (set : List UnitTable) (st : List (List ℕ)) (l n : Life) → IsInRange params → IfSome n.answer (IsAnswer params set) → Same l n → outcome_told params set st n ≡ outcome_told params set st l
+pub outcome_same : (params : Params) (set : List UnitTable) (st : List (List ℕ)) (l n : Life) → IsInRange params → IfSome n.answer (IsAnswer params set) → Same l n → outcome_told params set st n ≡ outcome_told params set st l
 outcome_same params set st l n range a s =
     go (reads l) refl ∙ ap (λ o. outcome_by set (hit_told params set o) st (use_told params set l).lanes) s.answer
   where
@@ -117,10 +117,10 @@ pub record IsCycle (params : Params) (set : List UnitTable) (cycle : ℕ) (ls no
   pub answers : AllAnswers params set now
   pub over : AllOver ls
 
-older_cycle : (params : Params) (set : List UnitTable) (cycle : ℕ) (l n : Life) (ls now : List Life) → IsCycle params set cycle (l ∷ ls) (n ∷ now) → IsCycle params set cycle ls now
+pub older_cycle : (params : Params) (set : List UnitTable) (cycle : ℕ) (l n : Life) (ls now : List Life) → IsCycle params set cycle (l ∷ ls) (n ∷ now) → IsCycle params set cycle ls now
 older_cycle params set cycle l n ls now c = record { grouped = c.grouped.1; by = c.by.1; answers = c.answers.1; over = c.over.1 }
 
-old_grown : (cycle : ℕ) (ls now : List Life) → Each2 (Old cycle) ls now → Grown cycle ls now
+pub old_grown : (cycle : ℕ) (ls now : List Life) → Each2 (Old cycle) ls now → Grown cycle ls now
 old_grown cycle [] [] e = tt
 old_grown cycle [] (n ∷ now) e = e
 old_grown cycle (l ∷ ls) [] e = e
@@ -129,11 +129,11 @@ old_grown cycle (l ∷ ls) (n ∷ now) e = (e.0.grew, e.1)
 -- ---- the accumulators of a hart
 
 -- a ready use counts for the accumulators as before
-units_ready : (params : Params) (set : List UnitTable) (hart : ℕ) (l : Life) (older : List Life) (t : Bool) → (l.key.hart == hart) ≡ true → is_ready l older ≡ t
+pub units_ready : (params : Params) (set : List UnitTable) (hart : ℕ) (l : Life) (older : List Life) (t : Bool) → (l.key.hart == hart) ≡ true → is_ready l older ≡ t
     → units_told params set hart (l ∷ older) ≡ (if t then (outcome_told params set (units_told params set hart older) l).state else units_told params set hart older)
 units_ready params set hart l older t h r = ap₂ (λ x y. if x && y then (outcome_told params set (units_told params set hart older) l).state else units_told params set hart older) h r
 
-units_other : (params : Params) (set : List UnitTable) (hart : ℕ) (l : Life) (older : List Life) → (l.key.hart == hart) ≡ false → units_told params set hart (l ∷ older) ≡ units_told params set hart older
+pub units_other : (params : Params) (set : List UnitTable) (hart : ℕ) (l : Life) (older : List Life) → (l.key.hart == hart) ≡ false → units_told params set hart (l ∷ older) ≡ units_told params set hart older
 units_other params set hart l older h = ap (λ x. if x && is_ready l older then (outcome_told params set (units_told params set hart older) l).state else units_told params set hart older) h
 
 pub units_cycle : (params : Params) (set : List UnitTable) (hart cycle : ℕ) (ls now : List Life) → IsInRange params → Grown cycle ls now → IsCycle params set cycle ls now

@@ -10,3 +10,4 @@ pub mod Ready
 pub mod Lanes
 pub mod Units
 pub mod Applied
+pub mod Settled
