@@ -90,7 +90,7 @@ at (Some s) f k ls = by_test (λ l. l.start == s) f k ls
 
 -- ---- each step is one
 
-answered_is : (cycle : ℕ) (b : Bus) (ls : List Life) → IsChanged ls (answered cycle b ls)
+pub answered_is : (cycle : ℕ) (b : Bus) (ls : List Life) → IsChanged ls (answered cycle b ls)
 answered_is cycle b ls = go (is_issued b)
   where
     f : Life → Life
@@ -105,7 +105,7 @@ pub record KeepsAnswers (ls now : List Life) : Type 0 where
   pub changed : IsChanged ls now
   pub answer : (l : Life) → (changed.change l).answer ≡ l.answer
 
-given_is : (cycle : ℕ) (b : Bus) (ls : List Life) → KeepsAnswers ls (given cycle b ls)
+pub given_is : (cycle : ℕ) (b : Bus) (ls : List Life) → KeepsAnswers ls (given cycle b ls)
 given_is cycle b ls = go (is_given b) (start_of (register_key b) ls)
   where
     f : Life → Life
@@ -120,7 +120,7 @@ given_is cycle b ls = go (is_given b) (start_of (register_key b) ls)
     go true (Some s) = record { changed = at (Some s) f (record { key = λ l. refl; start = λ l. refl; word = λ l. refl }) ls; answer = λ l. on (l.start == s) l }
     go false o = record { changed = same ls; answer = λ l. refl }
 
-decided_is : (cycle : ℕ) (b : Bus) (ls : List Life) → KeepsAnswers ls (decided cycle b ls)
+pub decided_is : (cycle : ℕ) (b : Bus) (ls : List Life) → KeepsAnswers ls (decided cycle b ls)
 decided_is cycle b ls = go b.commit_valid (latest (commit_key b) ls)
   where
     f : Life → Life
@@ -139,7 +139,7 @@ decided_is cycle b ls = go b.commit_valid (latest (commit_key b) ls)
     go true (Some named) = in_group named (is_none named.verdict)
     go false o = record { changed = same ls; answer = λ l. refl }
 
-finished_is : (cycle : ℕ) (b : Bus) (ls : List Life) → KeepsAnswers ls (finished cycle b ls)
+pub finished_is : (cycle : ℕ) (b : Bus) (ls : List Life) → KeepsAnswers ls (finished cycle b ls)
 finished_is cycle b ls = go (is_taken b) (start_of (result_key b) ls)
   where
     f : Life → Life
@@ -170,7 +170,7 @@ changed_is cycle b ls = and_then ls (answered cycle b ls) _ (answered_is cycle b
 
 -- ---- so starts rise
 
-rising_changed : (bound : ℕ) (ls now : List Life) → IsChanged ls now → Rising bound ls → Rising bound now
+pub rising_changed : (bound : ℕ) (ls now : List Life) → IsChanged ls now → Rising bound ls → Rising bound now
 rising_changed bound ls now c r = subst (Rising bound) (sym c.is) (rising_map c.change c.keeps.start bound ls r)
 
 pub rising_start : (cycle : ℕ) (last b : Bus) (ls : List Life) → Rising cycle ls → Rising (cycle + 1) (with_start cycle last b ls)

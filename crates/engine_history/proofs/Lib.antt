@@ -11,3 +11,4 @@ pub mod Lanes
 pub mod Units
 pub mod Applied
 pub mod Settled
+pub mod Cycle
