@@ -211,7 +211,7 @@ goes_same params set cycle last b ls e m s v =
         ∙ mapped t.owner (latest key (l ∷ older))
         ∙ offered_same params set key (issue_key last) t.owner l older (h refl).0 owner r.1
 
-starts_same : (params : Params) (set : List UnitTable) (cycle : ℕ) (last b : Bus) (ls : List Life) (e : Engine) → IsTold params set cycle last ls e → IsSound cycle last ls
+pub starts_same : (params : Params) (set : List UnitTable) (cycle : ℕ) (last b : Bus) (ls : List Life) (e : Engine) → IsTold params set cycle last ls e → IsSound cycle last ls
     → spec.starts e (cpu_of b) ≡ starts last b ls
 starts_same params set cycle last b ls e m s = go b.issue_valid refl
   where

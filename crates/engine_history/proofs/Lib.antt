@@ -12,3 +12,4 @@ pub mod Units
 pub mod Applied
 pub mod Settled
 pub mod Cycle
+pub mod Stepped
