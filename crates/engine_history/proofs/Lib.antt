@@ -13,3 +13,4 @@ pub mod Applied
 pub mod Settled
 pub mod Cycle
 pub mod Stepped
+pub mod Offered
