@@ -41,7 +41,7 @@ accepted_kept ls now k = ap accepted_in k.changed.is ∙ go ls
         on true r = omega (arith, r)
         on false r = r
 
-accepted_start : (cycle : ℕ) (last b : Bus) (ls : List Life) → accepted_in (with_start cycle last b ls) ≡ accepted_in ls
+pub accepted_start : (cycle : ℕ) (last b : Bus) (ls : List Life) → accepted_in (with_start cycle last b ls) ≡ accepted_in ls
 accepted_start cycle last b ls = go (starts last b ls)
   where
     go : (t : Bool) → accepted_in (if t then new_life (issue_key b) cycle b.issue_instr ∷ ls else ls) ≡ accepted_in ls
@@ -78,7 +78,7 @@ accepted_answered cycle bound b ls r h = go b.issue_valid b.issue_ready ls r h
 -- ---- a cycle
 
 -- the answer on the bus is the engine's
-hit_driven : (params : Params) (set : List UnitTable) (cycle number : ℕ) (b : Bus) (e : Engine) → e.params ≡ params → e.set ≡ set → cop_of b ≡ spec.engine_drive e (cpu_of b) → is_issued b ≡ true
+pub hit_driven : (params : Params) (set : List UnitTable) (cycle number : ℕ) (b : Bus) (e : Engine) → e.params ≡ params → e.set ≡ set → cop_of b ≡ spec.engine_drive e (cpu_of b) → is_issued b ≡ true
     → spec.offered_hit e (cpu_of b) ≡ hit_by params set (answer_on cycle number b)
 hit_driven params set cycle number b e p s d i =
     let ready : b.issue_ready ≡ spec.issue_ready e (cpu_of b) = ap (λ (c : CopOut). c.issue_ready) d in

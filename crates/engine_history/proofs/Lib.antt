@@ -14,3 +14,4 @@ pub mod Settled
 pub mod Cycle
 pub mod Stepped
 pub mod Offered
+pub mod Ordered
