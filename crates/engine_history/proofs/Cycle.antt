@@ -8,7 +8,7 @@ use Rattle.xif_base.specs.declared.params.Key.{Key}
 use Rattle.xif_signals.specs.declared.bus.Bus.{Bus}
 use Rattle.xif_session.specs.Facts.{same_key, issue_key, register_key, commit_key, result_key, is_issued, is_given, is_taken, is_covered}
 use Rattle.xif_session.proofs.Options.{both-true, and-true, no_true}
-use Rattle.engine_history.specs.Lives.{Life, Answer, Operands, Verdict, new_life, is_accepted, is_killed, is_released, latest, start_of, starts, with_start, change_if, at_start, answer_on, accepted_in, answered, lanes_on, given, is_in_group, decided_by, decided, finished, changed}
+use Rattle.engine_history.specs.Lives.{Life, Answer, Operands, Verdict, new_life, is_accepted, is_killed, is_released, latest, start_of, starts, with_start, change_if, at_start, answer_on, accepted_in, answered, operands_on, lanes_on, given, is_in_group, decided_by, decided, finished, changed}
 use Rattle.engine_history.specs.Told.{counts, ready_cycle, is_ready}
 use Rattle.engine_history.proofs.Keep.{Rising, HeadWaits, Keeps, IsChanged, KeepsAnswers, rising_up, head_start, older_same, latest_map, answered_is, rising_changed, given_is}
 use Rattle.engine_history.proofs.Grown.{Comes, Grew, Old, Each2, Grown}
@@ -128,7 +128,7 @@ unfolding Found
 given_old cycle bound b ls r h = go (is_given b) refl (latest (register_key b) ls) refl
   where
     f : Life → Life
-    f l = record l { operands = Some (record { cycle = cycle; lanes = lanes_on b }) }
+    f l = record l { operands = Some (operands_on cycle b) }
 
     none : {A : Type 0} (o : Option A) → is_some o ≡ false → o ≡ None
     none None h = refl
@@ -383,8 +383,8 @@ changed_grouped cycle bound b ls r h =
     answer true o = grouped_at o (λ l. record l { answer = Some (answer_on cycle (accepted_in ls) b) }) (λ l. refl) (λ l. refl) ls h
     answer false o = h
 
-    give : (t : Bool) (o : Option ℕ) (xs : List Life) → Grouped xs → Grouped (if t then at_start o (λ l. record l { operands = Some (record { cycle = cycle; lanes = lanes_on b }) }) xs else xs)
-    give true o xs h = grouped_at o (λ l. record l { operands = Some (record { cycle = cycle; lanes = lanes_on b }) }) (λ l. refl) (λ l. refl) xs h
+    give : (t : Bool) (o : Option ℕ) (xs : List Life) → Grouped xs → Grouped (if t then at_start o (λ l. record l { operands = Some (operands_on cycle b) }) xs else xs)
+    give true o xs h = grouped_at o (λ l. record l { operands = Some (operands_on cycle b) }) (λ l. refl) (λ l. refl) xs h
     give false o xs h = h
 
     ended : (t : Bool) (o : Option ℕ) (xs : List Life) → Grouped xs → Grouped (if t then at_start o (λ l. record l { finish = Some cycle }) xs else xs)

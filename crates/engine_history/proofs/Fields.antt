@@ -25,7 +25,7 @@ use Rattle.cycle_spec.specs.declared.turn.Transaction.{Transaction}
 use Rattle.cycle_spec.specs.declared.use_of.Use.{Use}
 use Rattle.cycle_spec.specs.State.{Engine, new_engine}
 use Rattle.cycle_spec.specs.Engine as spec
-use Rattle.engine_history.specs.Lives.{Life, Answer, Operands, Verdict, new_life, is_of, is_accepted, is_killed, latest, start_of, goes_on, starts, with_start, change_if, at_start, answer_on, accepted_in, answered, lanes_on, given, is_in_group, decided_by, decided, finished, changed, lives_after, lives_of, lives_with}
+use Rattle.engine_history.specs.Lives.{Life, Answer, Operands, Verdict, new_life, is_of, is_accepted, is_killed, latest, start_of, goes_on, starts, with_start, change_if, at_start, answer_on, accepted_in, answered, operands_on, lanes_on, given, is_in_group, decided_by, decided, finished, changed, lives_after, lives_of, lives_with}
 use Rattle.engine_history.specs.Runs.{cpu_of, cop_of, input_of, engine_of, IsDriven}
 use Rattle.engine_history.specs.Channels.{named_start}
 use Rattle.engine_history.specs.Told.{hit_by, hit_told, decision_told, use_told, plain, others, latest_uses}
@@ -80,7 +80,7 @@ one_answer params set start cycle number hit b l h = go (l.start == start)
     go false = refl
 
 pub one_given : (params : Params) (set : List UnitTable) (start cycle : ℕ) (b : Bus) (l : Life)
-    → spec.with_operands start (lanes_on b) (use_told params set l) ≡ use_told params set (change_if (l.start == start) (λ l. record l { operands = Some (record { cycle = cycle; lanes = lanes_on b }) }) l)
+    → spec.with_operands start (lanes_on b) (use_told params set l) ≡ use_told params set (change_if (l.start == start) (λ l. record l { operands = Some (operands_on cycle b) }) l)
 one_given params set start cycle b l = go (l.start == start)
   where
     u : Use
@@ -94,7 +94,7 @@ one_given params set start cycle b l = go (l.start == start)
     or_false true = refl
     or_false false = refl
 
-    go : (t : Bool) → record u { given = is_some l.operands || t; lanes = if t then lanes_on b else u.lanes } ≡ use_told params set (change_if t (λ l. record l { operands = Some (record { cycle = cycle; lanes = lanes_on b }) }) l)
+    go : (t : Bool) → record u { given = is_some l.operands || t; lanes = if t then lanes_on b else u.lanes } ≡ use_told params set (change_if t (λ l. record l { operands = Some (operands_on cycle b) }) l)
     go true = ap (λ x. record u { given = x; lanes = lanes_on b }) (or_true (is_some l.operands))
     go false = ap (λ x. record u { given = x }) (or_false (is_some l.operands))
 
@@ -276,7 +276,7 @@ pub given_both : (params : Params) (set : List UnitTable) (cycle : ℕ) (b : Bus
 given_both params set cycle b us ls q = go (is_given b) (spec.latest (register_key b) us) (latest (register_key b) ls) (names params set us ls q (register_key b))
   where
     f : Life → Life
-    f l = record l { operands = Some (record { cycle = cycle; lanes = lanes_on b }) }
+    f l = record l { operands = Some (operands_on cycle b) }
 
     go : (t : Bool) (found : Option Use) (o : Option Life) → option_map plain found ≡ option_map (use_told params set) o
         → map plain (if t then spec.given_to found (lanes_on b) us else us) ≡ told_uses params set (if t then at_start (option_map (λ (l : Life). l.start) o) f ls else ls)

@@ -9,7 +9,7 @@ use Rattle.xif_signals.specs.declared.bus.Bus.{Bus}
 use Rattle.xif_session.specs.Facts.{same_key, issue_key, register_key, commit_key, result_key, is_issued, is_given, is_taken, issue_waits}
 use Rattle.xif_session.specs.Uses.{last_bus}
 use Rattle.xif_session.proofs.Options.{key_is, key_same, same_key-sym, no_true, both-true, and-true}
-use Rattle.engine_history.specs.Lives.{Life, Answer, Operands, Verdict, new_life, is_of, is_accepted, latest, start_of, goes_on, starts, with_start, change_if, at_start, answer_on, accepted_in, answered, lanes_on, given, is_in_group, decided_by, decided, finished, changed, lives_after, lives_of, lives_with}
+use Rattle.engine_history.specs.Lives.{Life, Answer, Operands, Verdict, new_life, is_of, is_accepted, latest, start_of, goes_on, starts, with_start, change_if, at_start, answer_on, accepted_in, answered, operands_on, lanes_on, given, is_in_group, decided_by, decided, finished, changed, lives_after, lives_of, lives_with}
 
 -- ---- starts rise
 
@@ -109,7 +109,7 @@ pub given_is : (cycle : ℕ) (b : Bus) (ls : List Life) → KeepsAnswers ls (giv
 given_is cycle b ls = go (is_given b) (start_of (register_key b) ls)
   where
     f : Life → Life
-    f l = record l { operands = Some (record { cycle = cycle; lanes = lanes_on b }) }
+    f l = record l { operands = Some (operands_on cycle b) }
 
     on : (t : Bool) (l : Life) → (change_if t f l).answer ≡ l.answer
     on true l = refl

@@ -15,3 +15,5 @@ pub mod Cycle
 pub mod Stepped
 pub mod Offered
 pub mod Ordered
+pub mod Session
+pub mod Orderly

@@ -13,7 +13,7 @@ use Rattle.xif_session.proofs.Options.{key_is, key_same, no_true, both-true, and
 use Rattle.cycle_spec.specs.declared.use_of.Use.{Use}
 use Rattle.cycle_spec.specs.State.{Engine}
 use Rattle.cycle_spec.specs.Engine as spec
-use Rattle.engine_history.specs.Lives.{Life, Answer, Operands, Verdict, new_life, latest, start_of, starts, with_start, change_if, at_start, answer_on, accepted_in, answered, lanes_on, given, is_in_group, decided_by, decided, finished}
+use Rattle.engine_history.specs.Lives.{Life, Answer, Operands, Verdict, new_life, latest, start_of, starts, with_start, change_if, at_start, answer_on, accepted_in, answered, operands_on, lanes_on, given, is_in_group, decided_by, decided, finished}
 use Rattle.engine_history.specs.Runs.{cpu_of, cop_of, input_of}
 use Rattle.engine_history.specs.Told.{hit_by, decision_told, use_told, plain, others, latest_uses, later, complete_cycle, all_complete, counts, ready_cycle, is_ready, outcome_told, units_told, result_told, whole_use, whole_uses}
 use Rattle.engine_history.proofs.Lists.{map_latest}
@@ -117,7 +117,7 @@ given_dressed params set cycle b old us ls q = record {
 }
   where
     f : Life → Life
-    f l = record l { operands = Some (record { cycle = cycle; lanes = lanes_on b }) }
+    f l = record l { operands = Some (operands_on cycle b) }
 
     go : (t : Bool) (found : Option Use) (o : Option Life) → option_map plain found ≡ option_map (use_told params set) o
         → (if t then spec.given_to found (lanes_on b) us else us) ≡ latest_uses (dressed params set old (if t then at_start (option_map (λ (l : Life). l.start) o) f ls else ls))

@@ -21,10 +21,11 @@ pub record Answer : Type 0 where
   -- how many uses were accepted before it
   pub number : ℕ
 
--- the lanes at its register handshake
+-- the lanes at its register handshake, and which halves of them were valid
 pub record Operands : Type 0 where
   pub cycle : ℕ
   pub lanes : List ℕ
+  pub valid : ℕ
 
 -- the effective commit that decided about it
 pub record Verdict : Type 0 where
@@ -123,11 +124,18 @@ answered cycle b ls =
 abbrev pub lanes_on : Bus → List ℕ
 lanes_on b = b.register_rs0 ∷ b.register_rs1 ∷ b.register_rs2 ∷ []
 
+abbrev pub operands_on : (cycle : ℕ) → Bus → Operands
+operands_on cycle b = record {
+  cycle = cycle;
+  lanes = lanes_on b;
+  valid = b.register_rs_valid;
+}
+
 abbrev pub given : (cycle : ℕ) → Bus → List Life → List Life
 given cycle b ls =
     if is_given b
     then at_start (start_of (register_key b) ls)
-    (λ l. record l { operands = Some (record { cycle = cycle; lanes = lanes_on b }) }) ls
+    (λ l. record l { operands = Some (operands_on cycle b) }) ls
     else ls
 
 -- A commit that names an undecided use decides about the undecided uses of its hart: a kill about

@@ -7,7 +7,8 @@ use Rattle.xif_signals.specs.declared.bus.Bus.{Bus}
 use Rattle.xif_signals.specs.declared.bus.CpuOut.{CpuOut}
 use Rattle.xif_signals.specs.declared.bus.CopOut.{CopOut}
 use Rattle.xif_signals.specs.declared.bus.CpuIn.{CpuIn}
-use Rattle.xif_session.specs.Rules.{HoldsI2, HoldsG2}
+use Rattle.xif_signals.specs.declared.rule.Channel.TheVariants.{Issue}
+use Rattle.xif_session.specs.Rules.{HasHart, HoldsI2, HoldsG2}
 use Rattle.xif_session.specs.Legal.{EachCycle}
 use Rattle.cycle_spec.specs.State.{Engine, new_engine}
 use Rattle.cycle_spec.specs.Engine.{engine_drive, engine_clock}
@@ -65,8 +66,9 @@ IsDriven params set script (b ∷ session) =
     (cop_of b ≡ engine_drive (engine_of params set script session) (cpu_of b))
     × IsDriven params set script session
 
--- What the core owes: it doesn't use a key again while a use of it is in flight, and gives a use
--- its registers once.
+-- What the core owes: each use is of a hart that there is, no key is used again while a use of it is
+-- in flight, and no use gets its registers twice.
 pub record IsOrderly (params : Params) (session : List Bus) : Type 0 where
+  pub harts : EachCycle (λ p b. HasHart params b Issue) session
   pub keys : EachCycle (HoldsI2 params) session
   pub registers : EachCycle HoldsG2 session

@@ -10,7 +10,9 @@ use Rattle.coproc_config.specs.State.{zeros}
 use Rattle.coproc_config.specs.Apply.{Outcome}
 use Rattle.xif_session.specs.declared.fact.Decision.{Decision}
 use Rattle.xif_session.specs.declared.fact.Decision.TheVariants.{Undecided}
+use Rattle.xif_session.specs.declared.fact.Fact.{Fact}
 use Rattle.xif_session.specs.Facts.{same_key, verdict_of}
+use Rattle.xif_session.specs.Uses.{Use as SessionUse}
 use Rattle.cycle_spec.specs.declared.use_of.Use.{Use}
 use Rattle.cycle_spec.specs.Engine.{outcome_by}
 use Rattle.engine_history.specs.Lives.{Life, Answer, Verdict, is_accepted, is_killed, is_released}
@@ -139,3 +141,18 @@ whole_use params set l older = record (use_told params set l) {
 abbrev pub whole_uses : Params → List UnitTable → List Life → List Use
 whole_uses params set [] = []
 whole_uses params set (l ∷ older) = whole_use params set l older ∷ whole_uses params set older
+
+-- ---- a use, as the rules of a session see it
+
+abbrev pub fact_told : Life → Fact
+fact_told l = record {
+  start = l.start;
+  instr = l.word;
+  response = option_map (λ a. a.response) l.answer;
+  operands = option_map (λ o. record { 0 = o.valid }) l.operands;
+  decision = decision_told l.verdict;
+  finished = is_some l.finish;
+}
+
+abbrev pub session_use : Life → SessionUse
+session_use l = record { key = l.key; fact = fact_told l }
