@@ -17,3 +17,5 @@ pub mod Offered
 pub mod Ordered
 pub mod Session
 pub mod Orderly
+pub mod Order
+pub mod Readings

@@ -2,7 +2,7 @@
 -- it. A session is a list of buses, one a cycle, the newest first; so is its history. A use is one
 -- instruction that is offered under a key (CV-X-IF 1.0.0, "Identification"). Cycles are counted
 -- from the first one of the session.
-use Rattle.std.specs.Prelude.{ℕ, ◌==◌, ◌&&◌, not, Bool, true, false, if◌then◌else◌, Option, Some, None, is_none, is_some, List, [], ◌∷◌, map, find, filter, length}
+use Rattle.std.specs.Prelude.{ℕ, ◌≡◌, ◌<◌, ◌==◌, ◌&&◌, not, Bool, true, false, if◌then◌else◌, Option, Some, None, is_none, is_some, IfSome, List, [], ◌∷◌, map, find, filter, length}
 use Rattle.std.specs.Option.{option_map, option_map_or}
 use Rattle.xif_base.specs.declared.params.Key.{Key}
 use Rattle.xif_signals.specs.declared.bus.Bus.{Bus}
@@ -179,3 +179,25 @@ lives_of (b ∷ session) = lives_after (length session) (last_bus session) b (li
 -- with the use that starts in the next cycle
 abbrev pub lives_with : List Bus → Bus → List Life
 lives_with session b = with_start (length session) (last_bus session) b (lives_of session)
+
+-- ---- laws over histories
+
+-- the issue handshakes of these uses came before a cycle
+abbrev pub AnsweredBefore : (cycle : ℕ) → List Life → Type 0
+AnsweredBefore cycle [] = Unit {0}
+AnsweredBefore cycle (l ∷ ls) =
+    IfSome l.answer (λ a. a.cycle < cycle) × AnsweredBefore cycle ls
+
+-- A use that was answered was so behind each older one, and its number is that of the older uses
+-- that were accepted.
+pub record IsInOrder (a : Answer) (older : List Life) : Type 0 where
+  pub behind : AnsweredBefore a.cycle older
+  pub number_is : a.number ≡ accepted_in older
+
+abbrev pub AnswersAreInOrder : List Life → Type 0
+AnswersAreInOrder [] = Unit {0}
+AnswersAreInOrder (l ∷ older) =
+    IfSome l.answer (λ a. IsInOrder a older) × AnswersAreInOrder older
+
+abbrev pub without_killed : List Life → List Life
+without_killed ls = filter (λ l. not (is_killed l)) ls
