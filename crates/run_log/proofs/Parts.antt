@@ -209,17 +209,29 @@ retire-told (Some r) (Some s) i j e =
     let stores : r.store ≡ s.store = store-told r.store s.store i.store j.store halves.1 in
     cc
 
+abbrev cut_made : (keep target : ℕ) → Cut
+cut_made keep target = record { keep = keep; target = target }
+
+cut_fields : (k t l u : ℕ) → line.Cut k t ∷ [] ≡ line.Cut l u ∷ [] → Some (cut_made k t) ≡ Some (cut_made l u)
+cut_fields k t l u e = cc
+
+abbrev dispatch_made : ℕ → Option ℕ → Dispatch
+dispatch_made pc word = record { pc = pc; word = word }
+
+dispatch_fields : (p q : ℕ) (w v : Option ℕ) → line.Dispatch p w ∷ [] ≡ line.Dispatch q v ∷ [] → Some (dispatch_made p w) ≡ Some (dispatch_made q v)
+dispatch_fields p q w v e = cc
+
 cut-told : (c d : Option Cut) → cut_lines c ≡ cut_lines d → c ≡ d
 cut-told None None e = refl
 cut-told None (Some d) e = cc
 cut-told (Some c) None e = cc
-cut-told (Some c) (Some d) e = cc
+cut-told (Some c) (Some d) e = cut_fields c.keep c.target d.keep d.target e
 
 dispatch-told : (c d : Option Dispatch) → dispatch_lines c ≡ dispatch_lines d → c ≡ d
 dispatch-told None None e = refl
 dispatch-told None (Some d) e = cc
 dispatch-told (Some c) None e = cc
-dispatch-told (Some c) (Some d) e = cc
+dispatch-told (Some c) (Some d) e = dispatch_fields c.pc d.pc c.word d.word e
 
 drain-told : (c d : Option ℕ) → drain_lines c ≡ drain_lines d → c ≡ d
 drain-told None None e = refl

@@ -97,18 +97,18 @@ without_number : (c : ℕ) (ls : List Line) → map (λ l. l.1) (numbered c ls) 
 without_number c [] = refl
 without_number c (l ∷ ls) = ap (λ t. l ∷ t) (without_number c ls)
 
-told_cons : (a b x y : CycleLog) (as bs : List CycleLog) → told_of a ≡ told_of b → map told_of as ≡ map told_of bs → map told_of (a ∷ as) ≡ map told_of (b ∷ bs)
-told_cons a b x y as bs e f = cc
+told_cons : (a b : CycleLog) (xs ys : List CycleLog) → told_of a ≡ told_of b → map told_of xs ≡ map told_of ys → map told_of (a ∷ xs) ≡ map told_of (b ∷ ys)
+told_cons a b xs ys e f = cc
 
-cycles-told : (c : ℕ) (as bs : List CycleLog) → length as ≡ length bs → AreLogs as → AreLogs bs → all_lines c as ≡ all_lines c bs → map told_of as ≡ map told_of bs
+cycles-told : (c : ℕ) (xs ys : List CycleLog) → length xs ≡ length ys → AreLogs xs → AreLogs ys → all_lines c xs ≡ all_lines c ys → map told_of xs ≡ map told_of ys
 cycles-told c [] [] n i j e = refl
-cycles-told c [] (b ∷ bs) n i j e = absurd (omega (arith, n))
-cycles-told c (a ∷ as) [] n i j e = absurd (omega (arith, n))
-cycles-told c (a ∷ as) (b ∷ bs) n i j e =
-    let parts = parts_apart number_of c (numbered c (lines_of a)) (numbered c (lines_of b)) (all_lines (c + 1) as) (all_lines (c + 1) bs)
-        (numbered-up_to c (lines_of a)) (numbered-up_to c (lines_of b)) (all-above c (c + 1) as (omega arith)) (all-above c (c + 1) bs (omega arith)) e in
+cycles-told c [] (b ∷ ys) n i j e = absurd (omega (arith, n))
+cycles-told c (a ∷ xs) [] n i j e = absurd (omega (arith, n))
+cycles-told c (a ∷ xs) (b ∷ ys) n i j e =
+    let parts = parts_apart number_of c (numbered c (lines_of a)) (numbered c (lines_of b)) (all_lines (c + 1) xs) (all_lines (c + 1) ys)
+        (numbered-up_to c (lines_of a)) (numbered-up_to c (lines_of b)) (all-above c (c + 1) xs (omega arith)) (all-above c (c + 1) ys (omega arith)) e in
     let lines : lines_of a ≡ lines_of b = sym (without_number c (lines_of a)) ∙ ap (map (λ l. l.1)) parts.0 ∙ without_number c (lines_of b) in
-    told_cons a b a b as bs (log-told a b i.0 j.0 lines) (cycles-told (c + 1) as bs (omega (arith, n)) i.1 j.1 parts.1)
+    told_cons a b xs ys (log-told a b i.0 j.0 lines) (cycles-told (c + 1) xs ys (omega (arith, n)) i.1 j.1 parts.1)
 
 -- ---- the law
 

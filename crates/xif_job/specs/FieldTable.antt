@@ -21,6 +21,7 @@ use Rattle.xif_signals.specs.declared.signal.Signal.{Signal}
 use Rattle.xif_signals.specs.declared.signal.Signal.TheVariants.{Clk}
 use Rattle.xif_sampler.specs.declared.place.Place.{Place}
 use Rattle.xif_sampler.specs.declared.place.Place.TheVariants as places
+use Rattle.xif_job.specs.declared.field.Field.{Field}
 use Rattle.xif_job.specs.declared.field.Field.TheVariants as fields
 use Rattle.xif_job.specs.declared.field.JobFault.{JobFault}
 use Rattle.xif_job.specs.declared.field.JobFault.TheVariants.{NotToml, WrongKind, OutOfRange, UnknownField}
