@@ -64,8 +64,8 @@ all-are c (log ∷ logs) h i =
     (numbered-are c (lines_of log) (omega (arith, h)) (lines-are log i.0))
     (all-are (c + 1) logs (omega (arith, h)) i.1)
 
-pair_same : (l m : Numbered) (ls ms : List Numbered) → l.0 ≡ m.0 → l.1 ≡ m.1 → ls ≡ ms → l ∷ ls ≡ m ∷ ms
-pair_same l m ls ms e f g = cc
+pair_same : (c d : ℕ) (l m : Line) (ls ms : List Numbered) → c ≡ d → l ≡ m → ls ≡ ms → with_number c l ∷ ls ≡ with_number d m ∷ ms
+pair_same c d l m ls ms e f g = cc
 
 texts_apart : (ls ms : List Numbered) → AreNumbered ls → AreNumbered ms → flat_map numbered_text ls ≡ flat_map numbered_text ms → ls ≡ ms
 texts_apart [] [] i j e = refl
@@ -73,7 +73,7 @@ texts_apart [] (m ∷ ms) i j e = absurd (line_some m.0 m.1 (flat_map numbered_t
 texts_apart (l ∷ ls) [] i j e = absurd (line_some l.0 l.1 (flat_map numbered_text ls) (sym e))
 texts_apart (l ∷ ls) (m ∷ ms) i j e =
     let first = lines_apart l.0 m.0 l.1 m.1 (flat_map numbered_text ls) (flat_map numbered_text ms) i.0.0 j.0.0 i.0.1 j.0.1 e in
-    pair_same l m ls ms first.0 first.1.0 (texts_apart ls ms i.1 j.1 first.1.1)
+    pair_same l.0 m.0 l.1 m.1 ls ms first.0 first.1.0 (texts_apart ls ms i.1 j.1 first.1.1)
 
 -- ---- the lines tell the cycles
 
