@@ -7,7 +7,7 @@ use Rattle.inorder_machine.specs.declared.stop.StopCause.TheVariants.{Ecall, Ebr
 use Rattle.run_log.specs.declared.line.Line.{Line}
 use Rattle.run_log.specs.declared.line.Line.TheVariants as line
 use Rattle.run_log.specs.Words.{hex_word, cause_word}
-use Rattle.run_log.specs.Log.{word_words, line_words, line_text}
+use Rattle.run_log.specs.Log.{word_words, line_text}
 use Rattle.run_log.specs.Told.{IsWord, IsByte, IsIn}
 use Rattle.run_log.proofs.Numerals.{IsInner, inner-append, inner-decimal, value-decimal, hex_value, inner-hex_word, value-hex_word}
 use Rattle.run_log.proofs.Sentences.{behind, AreInner, outside-behind, word_apart, behind_apart}

@@ -1,5 +1,5 @@
 -- Lists that are put together from parts are taken apart where a rank of their elements grows.
-use Rattle.std.proofs.Common.{◌≡◌, ◌<◌, ◌≤◌, ◌+◌, ◌++◌, ℕ, List, [], ◌∷◌, map, refl, ap, arith}
+use Rattle.std.proofs.Common.{◌≡◌, ◌<◌, ◌≤◌, ◌++◌, ℕ, List, [], ◌∷◌, refl, ap, arith}
 
 -- the rank of each element is at most k, or above it
 abbrev pub AreUpTo : {A : Type 0} → (A → ℕ) → ℕ → List A → Type 0

@@ -1,5 +1,5 @@
 -- A text of words between spaces, up to the end of a line, has one reading.
-use Rattle.std.proofs.Common.{◌≡◌, ◌<◌, ◌≤◌, ◌++◌, ℕ, List, [], ◌∷◌, refl, sym, ap, ◌∙◌, append_assoc, arith}
+use Rattle.std.proofs.Common.{◌≡◌, ◌≤◌, ◌++◌, ℕ, List, [], ◌∷◌, refl, sym, ◌∙◌, append_assoc, arith}
 use Rattle.run_log.proofs.Numerals.{IsInner}
 
 -- a text that begins with a space or with the end of a line

@@ -1,10 +1,10 @@
 -- The text of a log tells what is printed of each cycle.
 use Rattle.std.proofs.Common.{◌≡◌, ◌<◌, ◌≤◌, ◌+◌, ◌^◌, ◌++◌, ℕ, suc, List, [], ◌∷◌, length, map, All, refl, sym, ap, ◌∙◌, arith}
-use Rattle.std.specs.List.{enumerate_from, flat_map}
+use Rattle.std.specs.List.{flat_map}
 use Rattle.std.proofs.lemmas.Grind.{flat_map-append}
 use Rattle.cycle_spec.specs.declared.log.CycleLog.{CycleLog}
 use Rattle.run_log.specs.declared.line.Line.{Line}
-use Rattle.run_log.specs.Log.{line_text, lines_text, lines_of, cycle_text, text_from, text_of}
+use Rattle.run_log.specs.Log.{line_text, lines_text, lines_of, text_from, text_of}
 use Rattle.run_log.specs.Told.{IsLog, told_of}
 use Rattle.run_log.proofs.Lines.{IsLine, line_some, lines_apart}
 use Rattle.run_log.proofs.Numbered.{AreUpTo, AreAbove, above-append, parts_apart}
