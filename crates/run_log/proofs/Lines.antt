@@ -164,9 +164,8 @@ lines_apart c d l m s t small-c small-d is-l is-m e =
     ∙ ap (λ x. x ++ t) (line-words d m)
     ∙ append_assoc (decimal d) (behind (words_of m)) t in
     let first = word_apart (decimal c) (decimal d) (behind (words_of l) ++ s) (behind (words_of m) ++ t) (inner-decimal c small-c) (inner-decimal d small-d)
-        (outside-behind (words_of l) s) (outside-behind (words_of m) t) flat in
-    let rest = behind_apart (words_of l) (words_of m) s t (inner-words l is-l) (inner-words m is-m) first.1 in
-    (
+    (outside-behind (words_of l) s) (outside-behind (words_of m) t) flat in
+    let rest = behind_apart (words_of l) (words_of m) s t (inner-words l is-l) (inner-words m is-m) first.1 in (
       sym (value-decimal c small-c) ∙ ap number first.0 ∙ value-decimal d small-d,
-      (sym (line-read l is-l) ∙ ap line_by rest.0 ∙ line-read m is-m, rest.1)
+      (sym (line-read l is-l) ∙ ap line_by rest.0 ∙ line-read m is-m, rest.1),
     )

@@ -204,7 +204,7 @@ retire-told (Some r) None i j e = cc
 retire-told (Some r) (Some s) i j e =
     let rest = retire_fields r.pc r.word s.pc s.word (write_lines r.write ++ store_lines r.store) (write_lines s.write ++ store_lines s.store) e in
     let halves = parts_apart rank 1 (write_lines r.write) (write_lines s.write) (store_lines r.store) (store_lines s.store)
-        (write-up_to 1 r.write (omega arith)) (write-up_to 1 s.write (omega arith)) (store-above r.store) (store-above s.store) rest.1 in
+    (write-up_to 1 r.write (omega arith)) (write-up_to 1 s.write (omega arith)) (store-above r.store) (store-above s.store) rest.1 in
     let writes : r.write ≡ s.write = write-told r.write s.write halves.0 in
     let stores : r.store ≡ s.store = store-told r.store s.store i.store j.store halves.1 in
     cc
@@ -250,13 +250,13 @@ stop-told (Some c) (Some d) p q e = (cc, cc)
 pub log-told : (a b : CycleLog) → IsLog a → IsLog b → lines_of a ≡ lines_of b → told_of a ≡ told_of b
 log-told a b i j e =
     let one = parts_apart rank 2 (retire_lines a.retired) (retire_lines b.retired) (first a) (first b)
-        (retire-up_to a.retired) (retire-up_to b.retired) (first-above a) (first-above b) (sym (in_parts a) ∙ e ∙ in_parts b) in
+    (retire-up_to a.retired) (retire-up_to b.retired) (first-above a) (first-above b) (sym (in_parts a) ∙ e ∙ in_parts b) in
     let two = parts_apart rank 3 (cut_lines a.cut) (cut_lines b.cut) (second a) (second b)
-        (cut-up_to a.cut) (cut-up_to b.cut) (second-above 3 a (omega arith)) (second-above 3 b (omega arith)) one.1 in
+    (cut-up_to a.cut) (cut-up_to b.cut) (second-above 3 a (omega arith)) (second-above 3 b (omega arith)) one.1 in
     let three = parts_apart rank 4 (dispatch_lines a.dispatched) (dispatch_lines b.dispatched) (third a) (third b)
-        (dispatch-up_to a.dispatched) (dispatch-up_to b.dispatched) (third-above 4 a (omega arith)) (third-above 4 b (omega arith)) two.1 in
+    (dispatch-up_to a.dispatched) (dispatch-up_to b.dispatched) (third-above 4 a (omega arith)) (third-above 4 b (omega arith)) two.1 in
     let four = parts_apart rank 5 (drain_lines a.drained) (drain_lines b.drained) (stop_lines a.stopped a.pc) (stop_lines b.stopped b.pc)
-        (drain-up_to a.drained) (drain-up_to b.drained) (stop-above 5 a.stopped a.pc (omega arith)) (stop-above 5 b.stopped b.pc (omega arith)) three.1 in
+    (drain-up_to a.drained) (drain-up_to b.drained) (stop-above 5 a.stopped a.pc (omega arith)) (stop-above 5 b.stopped b.pc (omega arith)) three.1 in
     let stops = stop-told a.stopped b.stopped a.pc b.pc four.1 in
     let retires : option_map told_retire a.retired ≡ option_map told_retire b.retired = retire-told a.retired b.retired i.retired j.retired one.0 in
     let cuts : a.cut ≡ b.cut = cut-told a.cut b.cut two.0 in

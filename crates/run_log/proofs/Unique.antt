@@ -106,7 +106,7 @@ cycles-told c [] (b ∷ ys) n i j e = absurd (omega (arith, n))
 cycles-told c (a ∷ xs) [] n i j e = absurd (omega (arith, n))
 cycles-told c (a ∷ xs) (b ∷ ys) n i j e =
     let parts = parts_apart number_of c (numbered c (lines_of a)) (numbered c (lines_of b)) (all_lines (c + 1) xs) (all_lines (c + 1) ys)
-        (numbered-up_to c (lines_of a)) (numbered-up_to c (lines_of b)) (all-above c (c + 1) xs (omega arith)) (all-above c (c + 1) ys (omega arith)) e in
+    (numbered-up_to c (lines_of a)) (numbered-up_to c (lines_of b)) (all-above c (c + 1) xs (omega arith)) (all-above c (c + 1) ys (omega arith)) e in
     let lines : lines_of a ≡ lines_of b = sym (without_number c (lines_of a)) ∙ ap (map (λ l. l.1)) parts.0 ∙ without_number c (lines_of b) in
     told_cons a b xs ys (log-told a b i.0 j.0 lines) (cycles-told (c + 1) xs ys (omega (arith, n)) i.1 j.1 parts.1)
 

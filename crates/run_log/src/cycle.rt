@@ -69,12 +69,7 @@ fn push_write(text: &mut String, cycle: u64, write: Write) -> Result<(), AllocEr
     }
 }
 
-fn push_register(
-    text: &mut String,
-    cycle: u64,
-    register: u16,
-    value: u32,
-) -> Result<(), AllocError>
+fn push_register(text: &mut String, cycle: u64, register: u16, value: u32) -> Result<(), AllocError>
     ensures { OnOk result
         (Appends text.old text.new (line_text cycle (Line.Write register value))) }
 {

@@ -15,11 +15,7 @@ pub enum Line {
     /// It writes this value to the register of this number.
     Write { register: u16, value: u32 },
     /// It stores the lowest `width` bytes of a value, the others of which are 0.
-    Store {
-        address: u32,
-        width: u8,
-        value: u32,
-    },
+    Store { address: u32, width: u8, value: u32 },
     /// Of the instructions in flight all but the `keep` oldest are dropped, and the next dispatch
     /// is at the target.
     Cut { keep: u8, target: u32 },

@@ -5,6 +5,7 @@ ghost use Rattle.xif_job.specs.FieldTable.{job_of, all_of, read_of};
 ghost use Rattle.xif_job.specs.Outcome.{ReadsAs};
 ghost use Rattle.xif_job.specs.Ranges.{IsLawfulJob};
 
+use crate::JobFault;
 use crate::core_table::read_core;
 use crate::document::document;
 use crate::image::{ImageSource, read_image};
@@ -16,7 +17,6 @@ use crate::readers::has_only;
 use crate::script::{check_script, read_script};
 use crate::trace::read_trace;
 use crate::units::{check_set, read_units};
-use crate::JobFault;
 use coproc_config::Set;
 use std::alloc::Global;
 use toml::Table;

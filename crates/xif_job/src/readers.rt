@@ -358,11 +358,7 @@ fn each_integer(
 }
 
 /// An array of any number of delays, in cycles. An absent one is a single 0.
-pub(crate) fn delays(
-    alloc: Global,
-    field: Field,
-    value: Option<&Value>,
-) -> Result<Delays, JobFault>
+pub(crate) fn delays(alloc: Global, field: Field, value: Option<&Value>) -> Result<Delays, JobFault>
     ensures { ReadsAs (λ d. d) result
         (list_in field (0 to 65535) (Absent.Default (0 ∷ [])) (data_of value.entry)) }
 {
