@@ -15,9 +15,9 @@ use xif_base::{Out, Which, WriteFail, put_all};
 pub(crate) fn print_answer<O: Out>(answer: &Answer, out: &mut O) -> Status
     ensures end { (result ≡ end_status answer.now.end) ⊎ IsPrintFail result }
     ensures put { (end : End) → result ≡ end_status end →
-        O.put_bytes out.new ≡ grown (O.put_bytes out.old) answer.now.text }
+        O.put_bytes out.new ≡ grown (O.put_bytes out.old) answer.now.printed }
     ensures front { IsPrintFail result →
-        GrowsByFront (O.put_bytes out.old) (O.put_bytes out.new) answer.now.text }
+        GrowsByFront (O.put_bytes out.old) (O.put_bytes out.new) answer.now.printed }
     ensures write_fault { result ≡ Status.WriteFault Which.Output →
         IsFaulted (O.faultless out.old) (O.faults out.old) (O.faults out.new) }
     ensures uncounted { (O.faults out.new ≡ O.faults out.old)
