@@ -6,3 +6,4 @@ pub mod Steps
 pub mod Judging
 pub mod Jobs
 pub mod Judged
+pub mod Concluding
