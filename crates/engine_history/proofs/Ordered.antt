@@ -1,14 +1,13 @@
 -- Beside an orderly core the engine's uses, their ends, ready cycles and results, and the
 -- accumulators are those that the history tells.
-use Rattle.std.proofs.Common.{if◌then◌else◌, ◌≡◌, ◌⊎◌, inl, inr, ◌++◌, ◌+◌, ◌==◌, ◌<◌, ◌≤◌, ◌&&◌, ◌||◌, not, ℕ, Bool, true, false, Option, Some, None, IfSome, List, [], ◌∷◌, map, filter, find, length, replicate, refl, sym, ap, ap₂, ◌∙◌, subst, arith}
+use Rattle.std.proofs.Common.{if◌then◌else◌, ◌≡◌, ◌⊎◌, inl, inr, ◌+◌, ◌==◌, ◌<◌, ◌&&◌, ◌||◌, not, ℕ, Bool, true, false, Option, Some, None, IfSome, List, [], ◌∷◌, map, length, refl, sym, ap, ap₂, ◌∙◌, subst, arith}
 use Rattle.std.specs.Prelude.{is_none, is_some, slice_index_or}
 use Rattle.std.specs.Option.{option_map, option_map_or}
-use Rattle.std.proofs.lemmas.Bool.{eqb-true, eq-eqb, ne_eqb}
+use Rattle.std.proofs.lemmas.Bool.{eqb-true}
 use Rattle.std.proofs.lemmas.List.{length-replicate, get_or-replicate}
 use Rattle.xif_base.specs.declared.params.Key.{Key}
 use Rattle.xif_base.specs.declared.params.Params.{Params}
 use Rattle.xif_base.specs.Params.{IsInRange}
-use Rattle.coproc_config.specs.declared.accept.Hit.{Hit}
 use Rattle.coproc_config.specs.Set.{UnitTable}
 use Rattle.coproc_config.specs.Accept.{hit_of}
 use Rattle.coproc_config.specs.State.{zeros}
@@ -17,25 +16,25 @@ use Rattle.xif_signals.specs.declared.bus.Bus.{Bus}
 use Rattle.xif_signals.specs.declared.bus.CopOut.{CopOut}
 use Rattle.xif_session.specs.Facts.{same_key, issue_key, register_key, commit_key, result_key, is_issued, is_given, is_taken}
 use Rattle.xif_session.specs.Uses.{last_bus}
-use Rattle.xif_session.proofs.Options.{key_is, key_same, no_true, both-true, and-true}
+use Rattle.xif_session.proofs.Options.{key_is, no_true, both-true}
 use Rattle.cycle_spec.specs.declared.use_of.Use.{Use}
-use Rattle.cycle_spec.specs.State.{Engine, new_engine}
+use Rattle.cycle_spec.specs.State.{Engine}
 use Rattle.cycle_spec.specs.Engine as spec
 use Rattle.cycle_spec.specs.Engine.{is_complete, units_behind, ready_in_harts, units_in_harts}
-use Rattle.engine_history.specs.Lives.{Life, Answer, Operands, Verdict, new_life, is_accepted, is_killed, latest, start_of, starts, with_start, change_if, at_start, answer_on, accepted_in, answered, operands_on, lanes_on, given, is_in_group, decided_by, decided, finished, changed, lives_after, lives_of}
+use Rattle.engine_history.specs.Lives.{Life, Answer, new_life, is_accepted, is_killed, latest, start_of, starts, with_start, change_if, at_start, answer_on, accepted_in, answered, operands_on, given, is_in_group, decided_by, decided, changed, lives_after, lives_of}
 use Rattle.engine_history.specs.Runs.{cpu_of, cop_of, input_of, engine_of, IsDriven}
-use Rattle.engine_history.specs.Told.{hit_by, use_told, others, latest_uses, counts, ready_cycle, is_ready, outcome_told, units_told, whole_uses}
-use Rattle.engine_history.proofs.Keep.{Rising, HeadWaits, IsChanged, KeepsAnswers, rising_start, head_named, start_changed, behind_is, answered_is, given_is, decided_is, changed_is}
+use Rattle.engine_history.specs.Told.{latest_uses, counts, ready_cycle, is_ready, outcome_told, units_told, whole_uses}
+use Rattle.engine_history.proofs.Keep.{Rising, KeepsAnswers, rising_start, head_named, start_changed, behind_is, answered_is, given_is, decided_is, changed_is}
 use Rattle.engine_history.proofs.Fields.{IsTold, IsSound}
 use Rattle.engine_history.proofs.Kept.{accepted_start, hit_driven, on_channel, sound, told}
 use Rattle.engine_history.proofs.Settle.{units_length, units_at}
 use Rattle.engine_history.proofs.Grown.{Grew, Old, Each2, Grown}
-use Rattle.engine_history.proofs.Ready.{Decided, Grouped, AllBy, counted, ready_stays}
+use Rattle.engine_history.proofs.Ready.{Grouped, AllBy, counted, ready_stays}
 use Rattle.engine_history.proofs.Units.{IsAnswer, AllAnswers, dressed, Over, AllOver}
 use Rattle.engine_history.proofs.Applied.{IsCycle, units_cycle}
 use Rattle.engine_history.proofs.Settled.{AllHarts, settled}
 use Rattle.engine_history.proofs.Cycle.{changed_grown, grown_by, all_up, changed_grouped}
-use Rattle.engine_history.proofs.Stepped.{IsDressed, ready_new, start_dressed, answer_dressed, given_dressed, decided_dressed, finished_dressed}
+use Rattle.engine_history.proofs.Stepped.{ready_new, start_dressed, answer_dressed, given_dressed, decided_dressed, finished_dressed}
 use Rattle.engine_history.proofs.Offered.{EachAt, Waits, WaitsAt, is_running, IsOffered, offered_is, offered_named, waits_named}
 
 -- ---- what holds of the history of an orderly core

@@ -1,6 +1,6 @@
 -- The transactions of a channel, as a list of its cycles tells them. A transaction is for one use,
 -- and goes on until its handshake (CV-X-IF 1.0.0, "Handshake rules").
-use Rattle.std.specs.Prelude.{ℕ, ◌+◌, ◌==◌, ◌&&◌, not, Bool, true, false, if◌then◌else◌, Option, Some, None, List, [], ◌∷◌, drop, length, filter}
+use Rattle.std.specs.Prelude.{ℕ, ◌+◌, ◌==◌, ◌&&◌, not, Bool, false, if◌then◌else◌, Option, Some, None, List, [], ◌∷◌, drop, length, filter}
 use Rattle.std.specs.Option.{option_map_or}
 use Rattle.xif_base.specs.declared.params.Key.{Key}
 use Rattle.xif_signals.specs.declared.bus.Bus.{Bus}

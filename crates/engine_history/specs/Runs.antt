@@ -1,5 +1,5 @@
 -- A run of the engine, by the buses of its session, the newest first.
-use Rattle.std.specs.Prelude.{ℕ, ◌≡◌, List, [], ◌∷◌}
+use Rattle.std.specs.Prelude.{◌≡◌, List, [], ◌∷◌}
 use Rattle.xif_base.specs.declared.params.Params.{Params}
 use Rattle.coproc_config.specs.Set.{UnitTable}
 use Rattle.xif_drive.specs.Scripts.{Lists}
