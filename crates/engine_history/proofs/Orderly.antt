@@ -66,5 +66,5 @@ all_orderly params (b ∷ session) o =
 
 -- beside an orderly core
 pub orderly_told : (params : Params) (set : List UnitTable) (script : Lists) (session : List Bus) → IsInRange params → IsDriven params set script session → IsOrderly params session
-    → IsBoth params set (length session) (lives_of session) (engine_of params set script session)
+    → IsBoth params set (length session) (last_bus session) (lives_of session) (engine_of params set script session)
 orderly_told params set script session range d o = both_told params set script session range d (all_orderly params session o)
