@@ -19,3 +19,4 @@ pub mod Session
 pub mod Orderly
 pub mod Order
 pub mod Readings
+pub mod Run
