@@ -20,3 +20,4 @@ pub mod Orderly
 pub mod Order
 pub mod Readings
 pub mod Run
+mod Examples

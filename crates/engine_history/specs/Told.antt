@@ -108,7 +108,7 @@ ready_cycle l older =
 abbrev pub is_ready : Life → (older : List Life) → Bool
 is_ready l older = is_some (ready_cycle l older)
 
--- the cycle with which all uses of a hart that count are ready: `ready_law` says that it is the one
+-- the cycle with which all uses of a hart that count are ready: `uses_law` says that it is the one
 -- with which all of them are complete
 abbrev pub all_ready : (hart : ℕ) → List Life → Option ℕ
 all_ready hart [] = Some 0
