@@ -19,3 +19,5 @@ pub mod Cycling
 pub mod Same
 pub mod Closing
 pub mod Always
+pub mod Fixed
+pub mod Agreeing
