@@ -1,4 +1,4 @@
-//! What holds of core and engine in every state that they come to.
+//! What holds of core and engine in every state that they reach.
 ghost use Rattle.std.specs.Prelude.{◌≡◌, ◌≢◌, ℕ, true, None, Some, []};
 ghost use Rattle.inorder_machine.specs.declared.stop.StopCause.{StopCause};
 ghost use Rattle.cycle_spec.specs.declared.choices.Mode.TheVariants.{Running};
