@@ -1,7 +1,7 @@
 -- Core and engine count the register transactions alike, where those have a channel of their own.
-use Rattle.std.proofs.Common.{◌≡◌, ◌≢◌, ◌<◌, ◌==◌, ◌&&◌, ◌+◌, ◌++◌, ℕ, Bool, true, false, cond, not, List, [], ◌∷◌, map, filter, Option, Some, None, refl, sym, ap, ◌∙◌, subst, arith, append_assoc}
-use Rattle.std.specs.Prelude.{is_some, IsSome, IfSome, find}
-use Rattle.std.specs.Option.{option_map, option_map_or}
+use Rattle.std.proofs.Common.{◌≡◌, ◌≢◌, ◌<◌, ◌==◌, ◌+◌, ◌++◌, ℕ, Bool, true, false, cond, not, List, [], ◌∷◌, filter, Option, Some, None, refl, sym, ap, ◌∙◌, subst, arith, append_assoc}
+use Rattle.std.specs.Prelude.{is_some, IfSome}
+use Rattle.std.specs.Option.{option_map_or}
 use Rattle.std.proofs.lemmas.Bool.{eqb-true, eqb-false, eq-eqb, ne_eqb}
 use Rattle.xif_base.specs.declared.params.Key.{Key}
 use Rattle.xif_image.specs.Region.{word_at}
@@ -11,32 +11,30 @@ use Rattle.cycle_spec.specs.declared.choices.Choices.{Choices}
 use Rattle.cycle_spec.specs.declared.choices.Presented.{Presented}
 use Rattle.cycle_spec.specs.declared.entry.Entry.{Entry}
 use Rattle.cycle_spec.specs.declared.entry.EntryKind.{EntryKind}
-use Rattle.cycle_spec.specs.declared.turn.Transaction.{Transaction}
 use Rattle.cycle_spec.specs.declared.turn.Transactions.{Transactions}
 use Rattle.cycle_spec.specs.declared.turn.Turn.{Turn}
 use Rattle.cycle_spec.specs.declared.use_of.Use.{Use}
-use Rattle.cycle_spec.specs.Flight.{is_unknown, is_unknown_kind, is_open, is_waiting, kind_at, free_id}
+use Rattle.cycle_spec.specs.Flight.{is_unknown, is_unknown_kind, is_open, is_waiting, free_id}
 use Rattle.cycle_spec.specs.Turns.{turn_in, turn_of, begun_in, aged, transactions_after}
-use Rattle.cycle_spec.specs.State.{Core, Engine}
 use Rattle.cycle_spec.specs.Choices.{choices}
-use Rattle.cycle_spec.specs.Core.{cpu_out, id_in, presented_id, present_owner, settled_entries, ahead_behind, memory_behind, entry_at, dispatch_of, with_dispatch}
-use Rattle.cycle_spec.specs.Engine.{has_key, issue_key, register_key, latest, start_of, new_use, start_step, starts, started_uses, register_start, register_ready, owner_if, engine_drive, settled_uses}
+use Rattle.cycle_spec.specs.Core.{id_in, presented_id, present_owner, settled_entries, ahead_behind, memory_behind, entry_at, dispatch_of, with_dispatch}
+use Rattle.cycle_spec.specs.Engine.{has_key, issue_key, latest, start_of, new_use, start_step, starts, started_uses, register_ready, owner_if, engine_drive, settled_uses}
 use Rattle.cycle_spec.specs.Cycle.{Machines, hart_if, input_at, cycle}
 use Rattle.cycle_spec.specs.Run.{Setup, new_machines}
 use Rattle.cycle_lists.specs.Lists.{Each, Pairs, FirstAt}
 use Rattle.cycle_lists.specs.Order.{Before, IsFree}
-use Rattle.cycle_lists.proofs.Tests.{not-both, not-out, and-left, false-or}
-use Rattle.cycle_lists.proofs.Every.{Each-append, Each-from, Each-both, Each-filter, Each-push, Each-at, Each-passed, Pairs-older, Pairs-younger}
+use Rattle.cycle_lists.proofs.Tests.{not-both, not-out, and-left}
+use Rattle.cycle_lists.proofs.Every.{Each-append, Each-from, Each-filter, Each-push, Each-at, Pairs-older, Pairs-younger}
 use Rattle.cycle_lists.proofs.Filters.{filter-at}
 use Rattle.cycle_lists.proofs.Free.{free}
 use Rattle.cycle_paired.specs.Paired.{is_live, live_entries, is_live_use, live_uses, Alike, Match, IsEntry, Older, Paired}
 use Rattle.cycle_paired.specs.Agreed.{SameTurn, AllPairs, Agreed}
 use Rattle.cycle_paired.specs.Reached.{begins_drain, resumes, Reached, First, Cycled, Drained, Resumed}
 use Rattle.cycle_paired.proofs.Facts.{only, waiting-live, live-unknown, open-unknown, open-dead}
-use Rattle.cycle_paired.proofs.Matching.{Found, found, latest-at, key-here, key-other}
+use Rattle.cycle_paired.proofs.Matching.{Found, found, latest-at, key-other}
 use Rattle.cycle_paired.proofs.Choosing.{Presents, Sound, sound}
-use Rattle.cycle_paired.proofs.Cycling.{facts_of, cpu_for, gives}
-use Rattle.cycle_paired.proofs.Closing.{bus_for, both_after, after-paired, cycle-paired}
+use Rattle.cycle_paired.proofs.Cycling.{facts_of, cpu_for}
+use Rattle.cycle_paired.proofs.Closing.{bus_for, both_after, after-paired}
 use Rattle.cycle_paired.proofs.Always.{start-paired, drain-paired, resumed-paired}
 use Rattle.cycle_paired.proofs.Fixed.{Fixed, fixed-settled, Named, named-settled}
 
@@ -94,9 +92,10 @@ known-all es older p younger h u b =
     let b' : Pairs Before (older ++ p ∷ younger) = subst (Pairs Before) h b in
     subst (Each (Fixed (IsKnown p.seq p.id))) (sym h)
     (Each-append (Fixed (IsKnown p.seq p.id)) older (p ∷ younger)
-    (Each-from (λ x. Before x p) (Fixed (IsKnown p.seq p.id)) older (λ x o v. ((λ q. absurd (let r = o.rises in omega (arith, r, q))), (λ q. absurd (o.apart v u q)))) (Pairs-older Before older p younger b'))
-    ((λ v. ((λ q. refl), (λ q. refl))),
-    Each-from (Before p) (Fixed (IsKnown p.seq p.id)) younger (λ x o v. ((λ q. absurd (let r = o.rises in omega (arith, r, q))), (λ q. absurd (o.apart u v (sym q))))) (Pairs-younger Before older p younger b')))
+    (Each-from (λ x. Before x p) (Fixed (IsKnown p.seq p.id)) older (λ x o v. ((λ q. absurd (let r = o.rises in omega (arith, r, q))), (λ q. absurd (o.apart v u q)))) (Pairs-older Before older p younger b')) (
+      (λ v. ((λ q. refl), (λ q. refl))),
+      Each-from (Before p) (Fixed (IsKnown p.seq p.id)) younger (λ x o v. ((λ q. absurd (let r = o.rises in omega (arith, r, q))), (λ q. absurd (o.apart u v (sym q))))) (Pairs-younger Before older p younger b'),
+    ))
 
 named-all : (hart : ℕ) (us front : List Use) (u : Use) (back : List Use) → us ≡ front ++ u ∷ back → u.key.hart ≡ hart → Pairs Older us → Each (Named (IsNamed hart u.start u.key.id)) us
 named-all hart us front u back h k b =
@@ -104,9 +103,10 @@ named-all hart us front u back h k b =
     let P = IsNamed hart u.start u.key.id in
     subst (Each (Named P)) (sym h)
     (Each-append (Named P) front (u ∷ back)
-    (Each-from (λ x. Older x u) (Named P) front (λ x o v. ((λ q. absurd (let r = o.rises in omega (arith, r, q))), (λ q. absurd (o.apart (v ∙ sym k) q)))) (Pairs-older Older front u back b'))
-    ((λ v. ((λ q. refl), (λ q. refl))),
-    Each-from (Older u) (Named P) back (λ x o v. ((λ q. absurd (let r = o.rises in omega (arith, r, q))), (λ q. absurd (o.apart (k ∙ sym v) (sym q))))) (Pairs-younger Older front u back b')))
+    (Each-from (λ x. Older x u) (Named P) front (λ x o v. ((λ q. absurd (let r = o.rises in omega (arith, r, q))), (λ q. absurd (o.apart (v ∙ sym k) q)))) (Pairs-older Older front u back b')) (
+      (λ v. ((λ q. refl), (λ q. refl))),
+      Each-from (Older u) (Named P) back (λ x o v. ((λ q. absurd (let r = o.rises in omega (arith, r, q))), (λ q. absurd (o.apart (k ∙ sym v) (sym q))))) (Pairs-younger Older front u back b'),
+    ))
 
 -- a pair is that one by its number exactly where it is by its start
 both-by : (hart s i t : ℕ) (e : Entry) (u : Use) → Alike hart e u → Fixed (IsKnown s i) e → Named (IsNamed hart t i) u → Both s t e.seq u.start
@@ -256,9 +256,10 @@ agreed-after hart answer m ch input a split so0 =
     let below = Each-at (λ e. e.seq < n) w.flight q.older p q.younger q.here k.order.below in
     let is_free = Each-at (IsFree id) w.flight q.older p q.younger q.here (free w.flight).each in
     let fd = u.found in
-    let named : Each (Named (IsNamed hart fd.partner.start p.id)) e.uses = subst (λ i. Each (Named (IsNamed hart fd.partner.start i)) e.uses) fd.alike.id (named-all hart e.uses fd.front fd.partner fd.back fd.here fd.alike.hart_is k.older) in
-    (known-pushed answer n id pc (word_at (memory_behind ch.retire w.memory) pc) ch.dispatch p (settled_entries ch b w.flight) unknown below is_free known,
-    named-settled (IsNamed hart fd.partner.start p.id) e cpu (engine_drive e cpu) input (new-named hart m ch k x u so ok) named) in
+    let named : Each (Named (IsNamed hart fd.partner.start p.id)) e.uses = subst (λ i. Each (Named (IsNamed hart fd.partner.start i)) e.uses) fd.alike.id (named-all hart e.uses fd.front fd.partner fd.back fd.here fd.alike.hart_is k.older) in (
+      known-pushed answer n id pc (word_at (memory_behind ch.retire w.memory) pc) ch.dispatch p (settled_entries ch b w.flight) unknown below is_free known,
+      named-settled (IsNamed hart fd.partner.start p.id) e cpu (engine_drive e cpu) input (new-named hart m ch k x u so ok) named,
+    ) in
     let r = agreed-by hart m a ch (register_ready e cpu) p'.answered es' us' ch.present refl so.present so facts p'.match in
     record { paired = p'; begun = r.begun; pairs = r.pairs }
   where

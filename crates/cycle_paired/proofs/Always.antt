@@ -1,4 +1,4 @@
--- Core and engine are paired in every state that they come to.
+-- Core and engine are paired in every state that they reach.
 use Rattle.std.proofs.Common.{◌≡◌, ◌<◌, ℕ, false, List, [], ◌∷◌, None, refl, sym, ap, ◌∙◌, subst}
 use Rattle.std.specs.Prelude.{IfSome}
 use Rattle.cycle_spec.specs.declared.entry.Entry.{Entry}

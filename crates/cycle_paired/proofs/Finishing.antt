@@ -76,6 +76,7 @@ entry-finished w hart e u ok l a r = record {
   unsent = λ h. absurd (not-both (is_open e) (live-closed e l) h);
   stores = ok.stores;
   stops = ok.stops;
+  refused = ok.refused;
 }
 
 pub other-id : (id : ℕ) (x e : Entry) → Before x e → is_unknown e ≡ true → e.id ≡ id → holds_id id x ≡ false

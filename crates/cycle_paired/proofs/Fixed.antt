@@ -1,6 +1,6 @@
 -- What no step of a cycle changes: number, kind and id of an entry, start and key of a use.
-use Rattle.std.proofs.Common.{◌≡◌, ◌&&◌, ◌+◌, ◌++◌, ℕ, Bool, true, false, cond, not, List, [], ◌∷◌, map, filter, take, drop, Option, Some, None, refl, sym, ap, ◌∙◌, subst}
-use Rattle.std.specs.Prelude.{find, is_some}
+use Rattle.std.proofs.Common.{◌≡◌, ◌&&◌, ℕ, Bool, true, false, cond, not, List, map, filter, Option, Some, None, refl, sym, subst}
+use Rattle.std.specs.Prelude.{find}
 use Rattle.xif_base.specs.declared.params.Key.{Key}
 use Rattle.coproc_config.specs.declared.accept.Hit.{Hit}
 use Rattle.xif_signals.specs.declared.bus.Bus.{Bus}
@@ -18,11 +18,11 @@ use Rattle.cycle_spec.specs.declared.use_of.Use.{Use}
 use Rattle.cycle_spec.specs.Flight.{holds_id, with_response, with_sent, with_release, with_result, with_outcome}
 use Rattle.cycle_spec.specs.State.{Engine}
 use Rattle.cycle_spec.specs.Core.{response_on_offer, response_step, sent_on_present, sent_step, release_step, cut_step, drain_step, result_for, result_step, execute_step, retire_step, settled_entries}
-use Rattle.cycle_spec.specs.Engine.{has_key, issue_key, register_key, commit_key, latest, new_use, start_step, started_uses, starts, with_answer, with_operands, given_to, given_step, lanes_on, with_decision, decided_by, decide_step, with_end, ended, end_step, issue_start, offered_hit, answer_step, answered_uses, given_uses, decided_uses, ended_uses, offered_use, settled_uses}
+use Rattle.cycle_spec.specs.Engine.{has_key, issue_key, register_key, commit_key, latest, new_use, start_step, started_uses, starts, with_answer, with_operands, given_to, lanes_on, with_decision, decided_by, with_end, ended, issue_start, offered_hit, answered_uses, given_uses, decided_uses, ended_uses, offered_use, settled_uses}
 use Rattle.cycle_lists.specs.Lists.{Each}
 use Rattle.cycle_lists.proofs.Every.{Each-map, Each-filter, Each-push, Each-take, Each-drop}
 use Rattle.cycle_lists.proofs.Order.{Leaves, leaves-response, leaves-sent, leaves-release, leaves-result, leaves-outcome}
-use Rattle.cycle_paired.proofs.Applying.{Readied, AllReadied, Each-readied, all-harts}
+use Rattle.cycle_paired.proofs.Applying.{Each-readied, all-harts}
 
 -- ---- entries
 

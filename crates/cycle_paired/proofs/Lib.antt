@@ -21,3 +21,4 @@ pub mod Closing
 pub mod Always
 pub mod Fixed
 pub mod Agreeing
+pub mod Stopping

@@ -2,7 +2,7 @@
 //! the same order, and both know the same of its key, word, response, registers and decision.
 //!
 //! `specs/Paired.antt` says what that is, between the core of one hart and the engine, beside uses
-//! of other harts. `specs/Reached.antt` says which states core and engine come to. `pairing_law`
+//! of other harts. `specs/Reached.antt` says which states core and engine reach. `pairing_law`
 //! says that they are paired in each of them, and `turn_law` that harts may take turns. That both
 //! count the register transactions alike (`specs/Agreed.antt`) is `transactions_law`.
 //!
