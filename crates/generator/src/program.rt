@@ -1,5 +1,5 @@
 //! The program, in its memory.
-ghost use Rattle.std.specs.Prelude.{◌≡◌, ◌<◌, ◌≤◌, ◌^◌, ◌++◌, IfOk, OnOk, length};
+ghost use Rattle.std.specs.Prelude.{◌≡◌, ◌<◌, ◌≤◌, ◌^◌, ◌-◌, ◌++◌, IfOk, OnOk, length};
 ghost use Rattle.std.specs.List.{flat_map};
 ghost use Rattle.std.specs.Int.{w32, to_le_bytes};
 ghost use Rattle.generator.specs.Generated as spec;
@@ -15,10 +15,17 @@ const SIZE: u32 = 4_096;
 pub fn memory(alloc: Global, seed: u32, count: u32) -> Result<Memory, NoMemory>
     ensures { IfOk result (λ m. m ≡ spec.memory_of seed count) }
 {
+    memory_of(alloc, &memory_bytes(alloc, seed, count)?)
+}
+
+/// The bytes of the memory.
+fn memory_bytes(alloc: Global, seed: u32, count: u32) -> Result<Vec<u8>, NoMemory>
+    ensures { IfOk result (λ bytes. bytes.items ≡ (spec.memory_of seed count).bytes) }
+{
     let mut bytes = Vec::with_capacity(alloc, SIZE as usize)?;
     push_words(&mut bytes, &words(seed, count))?;
     bytes.resize(SIZE as usize, 0)?;
-    memory_of(alloc, &bytes)
+    Ok(bytes)
 }
 
 /// A memory of these bytes.
