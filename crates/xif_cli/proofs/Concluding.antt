@@ -85,13 +85,13 @@ same_place w v e = cc
 
 -- ---- faults at a target
 
-faulted_at : {A B C : Type 0} → (A → C) → (w : Which) → IsFaultedAt A B w → IsFaultedAt C B w
-faulted_at f which.Trace a = f a
-faulted_at f which.Log a = f a
-faulted_at f which.Output b = b
-faulted_at f which.Job a = absurd a
-faulted_at f which.Image a = absurd a
-faulted_at f which.Waveform a = absurd a
+faulted_at : {A C : Type 0} (B : Type 0) → (A → C) → (w : Which) → IsFaultedAt A B w → IsFaultedAt C B w
+faulted_at B f which.Trace a = f a
+faulted_at B f which.Log a = f a
+faulted_at B f which.Output b = b
+faulted_at B f which.Job a = absurd a
+faulted_at B f which.Image a = absurd a
+faulted_at B f which.Waveform a = absurd a
 
 faulted_either : {A B : Type 0} (w : Which) → IsFaultedAt A B w → A ⊎ B
 faulted_either which.Trace a = inl a
@@ -102,9 +102,9 @@ faulted_either which.Image a = absurd a
 faulted_either which.Waveform a = absurd a
 
 -- to write no file changes nothing
-pub no_targets : (reported : Option Files) → reported ≡ option_map (written []) reported
-no_targets None = refl
-no_targets (Some m) = refl
+pub no_targets : (targets : List Target) → targets ≡ [] → (reported : Option Files) → reported ≡ option_map (written targets) reported
+no_targets targets none None = refl
+no_targets targets none (Some m) = ap (λ ts. Some (written ts m)) (sym none)
 
 -- what a form refuses before it writes is a refusal, unless it is out of memory
 pub is_refusal : (f : Form) (status : Status) → IsTrue (can_refuse f status) → IsRefusal status ⊎ (status ≡ NoMemory)
@@ -120,6 +120,10 @@ is_refusal f (Map fault) t = inl tt
 is_refusal f (TooBig w) t = inl tt
 is_refusal f NoMemory t = inr refl
 is_refusal f Unbuilt t = inl tt
+
+-- nothing happened to a shelf
+pub untouched : {S : Type 0} {fetch_faults write_faults : S → ℕ} {faultless : S → Type 0} (shelf : S) → IsUncounted fetch_faults write_faults faultless shelf shelf
+untouched shelf = record { fetches = refl; writes = refl; stays_faultless = λ said. said }
 
 module _ {S O : Type 0} {files : S → Option Files} {fetch_faults write_faults : S → ℕ} {faultless : S → Type 0} {put_bytes : O → Option (List ℕ)} {put_faults : O → ℕ} {puts_all : O → Type 0} where
   -- a command that is refused
@@ -220,7 +224,7 @@ module _ {S O : Type 0} {files : S → Option Files} {fetch_faults write_faults 
         refusal = λ content m told. absurd (no_refusal (of_content status content));
         read_fault = λ w e. absurd (no_read w e);
         earlier_files = λ w e m told. absurd (no_read w e);
-        write_fault = λ w e. faulted_at later w (d.faulted w e);
+        write_fault = λ w e. faulted_at (IsFaulted (puts_all out_old) (put_faults out_old) (put_faults out_new)) later w (d.faulted w e);
         prefix = λ w e m told. record { answer = answer; is_meant = meant m told; stops = d.stops w e m (told_mid m told) };
         completes = λ m told other means. elim d.ends [
           | inl is ↦ inl (is ∙ ap (λ a. end_status a.end) (same_answer answer other (sym (meant m told) ∙ means)))
@@ -296,10 +300,6 @@ module _ {S O : Type 0} {files : S → Option Files} {fetch_faults write_faults 
         puts_reported = reported;
         puts_counted = counts;
       }
-
-  -- nothing happened to a shelf
-  pub untouched : (shelf : S) → IsUncounted fetch_faults write_faults faultless shelf shelf
-  untouched shelf = record { fetches = refl; writes = refl; stays_faultless = λ said. said }
 
 -- ---- the same of the words of a command
 

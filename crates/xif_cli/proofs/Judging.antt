@@ -39,7 +39,7 @@ no_read_fault judge.NoMemory r is w read = cc
 
 -- a waveform that is judged has this answer
 pub answer-judged : (job : Job) (bytes : List ℕ) (judged : Judged) (end : End) (text : List ℕ) → judged_of job.map job.params bytes ≡ Ok judged → end ≡ judged_end judged → text ≡ judged_text judged → answer_to job bytes ≡ Ok (prints end text)
-answer-judged job bytes judged end text meant ends prints =
+answer-judged job bytes judged end text meant ends text_is =
     ap answer_by meant
     ∙ ap (λ e. Ok (prints e (judged_text judged))) (sym ends)
-    ∙ ap (λ t. Ok (prints end t)) (sym prints)
+    ∙ ap (λ t. Ok (prints end t)) (sym text_is)

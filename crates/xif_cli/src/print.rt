@@ -1,5 +1,5 @@
 //! The text that a command prints.
-ghost use Rattle.std.specs.Prelude.{◌≡◌, ◌⊎◌};
+ghost use Rattle.std.specs.Prelude.{◌≡◌, ◌⊎◌, []};
 ghost use Rattle.xif_base.specs.Faults.{CountsFaults};
 ghost use Rattle.xif_base.specs.Output.{grown, GrowsByFront};
 ghost use Rattle.xif_cli.specs.Ending.{IsFaulted};
@@ -23,6 +23,7 @@ pub(crate) fn print_answer<O: Out>(answer: &Answer, out: &mut O) -> Status
     ensures uncounted { (O.faults out.new ≡ O.faults out.old)
         ⊎ (result ≡ Status.WriteFault Which.Output) }
     ensures counts { CountsFaults O.faults O.faultless out.old out.new }
+    ensures no_files { answer.now.targets ≡ [] }
 {
     match put_all(out, answer.text.as_bytes()) {
         Ok(()) => answer.end.status(),
