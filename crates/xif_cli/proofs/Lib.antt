@@ -1,6 +1,5 @@
 pub mod Forms
 pub mod Numbers
-pub mod Printed
 pub mod MemoryLines
 pub mod Reports
 pub mod Steps

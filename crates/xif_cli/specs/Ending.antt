@@ -66,11 +66,9 @@ writes f w =
     is_built f && (is_same w which.Output
     || (has_targets f && (is_same w which.Trace || is_same w which.Log)))
 
--- a fault of a job that is reported as one: that memory is out, and that a job's tables aren't
--- built yet, have statuses of their own
+-- a fault of a job that is reported as one: that memory is out has a status of its own
 abbrev pub is_job_fault : JobFault → Bool
 is_job_fault job.NoMemory = false
-is_job_fault job.Unbuilt = false
 is_job_fault fault = true
 
 -- likewise of an image
@@ -91,7 +89,7 @@ can_end f (Vcd fault) = is_judge f
 can_end f (Map fault) = is_judge f
 can_end f (TooBig w) = reads f w
 can_end f NoMemory = is_built f
-can_end f Unbuilt = has_job f || not (is_built f)
+can_end f Unbuilt = not (is_built f)
 
 -- a call raised a count of faults, and what was called didn't say that it would have none
 abbrev pub IsFaulted : (faultless : Type 0) (before now : ℕ) → Type 0

@@ -70,7 +70,6 @@ file_in which limit (Some bytes) =
 -- the status of a job's fault, and of an image's
 abbrev pub job_status : JobFault → Status
 job_status job.NoMemory = status.NoMemory
-job_status job.Unbuilt = status.Unbuilt
 job_status fault = status.Job fault
 
 abbrev pub image_status : ImageFault → Status

@@ -19,6 +19,8 @@ mod issue;
 #[cfg(test)]
 mod judge;
 #[cfg(test)]
+mod log;
+#[cfg(test)]
 mod machine;
 #[cfg(test)]
 mod maps;
