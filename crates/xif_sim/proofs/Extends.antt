@@ -6,7 +6,7 @@ use Rattle.xif_signals.specs.declared.bus.Bus.{Bus}
 use Rattle.cycle_spec.specs.declared.log.CycleLog.{CycleLog}
 use Rattle.cycle_spec.specs.State.{Core}
 use Rattle.cycle_spec.specs.Cycle.{Machines}
-use Rattle.cycle_spec.specs.Run.{Setup, Meaning, Progress, Run, next, unless, cycles_until, drained, drain_limit, with_drain as drain_begun_in, run_of, run_after, is_stopped, is_empty}
+use Rattle.cycle_spec.specs.Run.{Setup, Meaning, Progress, next, unless, cycles_until, drained, drain_limit, with_drain as drain_begun_in, run_of, run_after, is_stopped, is_empty}
 use Rattle.xif_drive.specs.Scripts.{largest_of}
 use Rattle.xif_sim.specs.Setup.{IsLawfulSetup}
 use Rattle.xif_sim.specs.Simulating.{Simulating, begun, is_over, with_drain, turned, after_cycle, GoesOn, progress_at, ended_from, Tells}

@@ -7,8 +7,8 @@ use Rattle.inorder_machine.specs.declared.line.Retire.{Retire}
 use Rattle.xif_signals.specs.declared.bus.Bus.{Bus}
 use Rattle.cycle_spec.specs.declared.log.CycleLog.{CycleLog}
 use Rattle.cycle_spec.specs.Engine.{units_of}
-use Rattle.cycle_spec.specs.Run.{Setup, Meaning, Run, run_of, run_after, end_by}
-use Rattle.xif_sim.specs.Simulating.{Simulating, is_over, GoesOn, progress_at, Tells}
+use Rattle.cycle_spec.specs.Run.{Setup, Meaning, Run, run_of, end_by}
+use Rattle.xif_sim.specs.Simulating.{Simulating, is_over, GoesOn, Tells}
 use Rattle.xif_sim.proofs.Extends.{tells-more, whole-run}
 
 abbrev retired_in : CycleLog → Option Retire

@@ -1,5 +1,5 @@
 -- The bus of two sides that fit their signals fits them.
-use Rattle.std.proofs.Common.{◌≡◌, ◌<◌, ◌≤◌, ◌^◌, ℕ, Bool, true, false, arith}
+use Rattle.std.proofs.Common.{◌<◌, ◌^◌, ℕ, Bool, true, false, arith}
 use Rattle.std.proofs.lemmas.Nat.{pow_pos}
 use Rattle.xif_base.specs.declared.params.Params.{Params}
 use Rattle.xif_base.specs.Params.{IsInRange}

@@ -1,10 +1,10 @@
 //! The logs of a run.
 ghost use Rattle.std.specs.Prelude.{◌≡◌, ◌<◌, ◌++◌, [], ◌∷◌, Some, length, slice_get, OnOk, OnErr};
 
+use cycle_spec::CycleLog;
 use std::alloc::Global;
 use std::marker::Model;
 use xif_base::NoMemory;
-use cycle_spec::CycleLog;
 
 /// The logs of a run, in the order of its cycles.
 #[derive(Debug, Drop)]

@@ -1,10 +1,10 @@
 //! The retirements of a run.
 ghost use Rattle.std.specs.Prelude.{◌≡◌, ◌<◌, ◌++◌, [], ◌∷◌, Some, length, slice_get, OnOk, OnErr};
 
+use inorder_machine::Retire;
 use std::alloc::Global;
 use std::marker::Model;
 use xif_base::NoMemory;
-use inorder_machine::Retire;
 
 /// The retirements of a run, in the order of its cycles.
 #[derive(Debug, Drop)]

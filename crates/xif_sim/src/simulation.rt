@@ -91,12 +91,7 @@ impl Simulation {
         }
         self.turn();
         self.left -= 1;
-        Some(one_cycle(
-            &mut self.core,
-            &mut self.engine,
-            0,
-            predictor,
-        ))
+        Some(one_cycle(&mut self.core, &mut self.engine, 0, predictor))
     }
 
     /// How the run ends, if no cycle follows.

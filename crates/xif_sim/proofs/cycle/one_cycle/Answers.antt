@@ -1,4 +1,4 @@
-use Rattle.std.proofs.Common.{◌≡◌, ◌<◌, ap, ap₂, subst, sym, ◌∙◌}
+use Rattle.std.proofs.Common.{◌≡◌, ◌<◌, ap, subst, sym, ◌∙◌}
 use Rattle.xif_base.specs.declared.params.Params.{Params}
 use Rattle.xif_base.specs.Params.{IsInRange}
 use Rattle.xif_signals.specs.Bus.{join_of, FitsWidths}

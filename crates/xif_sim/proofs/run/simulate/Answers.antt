@@ -1,13 +1,10 @@
-use Rattle.std.proofs.Common.{◌≡◌, ◌++◌, [], ◌∷◌, All, List, true, false, true≢false, reverse, filter_map, rules, ap, subst, sym, ◌∙◌}
+use Rattle.std.proofs.Common.{◌≡◌, ◌++◌, [], ◌∷◌, All, true, false, true≢false, reverse, filter_map, rules, ap, subst, sym, ◌∙◌}
 use Rattle.std.proofs.lemmas.List.Elements.{All-push}
 use Rattle.std.proofs.lemmas.Result.{IfOk-weaker}
-use Rattle.xif_base.specs.declared.params.Params.{Params}
-use Rattle.inorder_machine.specs.declared.line.Retire.{Retire}
-use Rattle.xif_signals.specs.declared.bus.Bus.{Bus}
 use Rattle.xif_signals.specs.Bus.{FitsWidths}
 use Rattle.cycle_spec.specs.declared.log.CycleLog.{CycleLog}
-use Rattle.cycle_spec.specs.Run.{Run, Meaning, run_of}
-use Rattle.xif_sim.specs.Simulating.{Simulating, meaning, is_over, GoesOn, Tells}
+use Rattle.cycle_spec.specs.Run.{Run, run_of}
+use Rattle.xif_sim.specs.Simulating.{meaning, is_over, Tells}
 use Rattle.xif_sim.proofs.Whole.{lists-more, retired-more, whole-lists, is-false}
 use Rattle.xif_sim.proofs.run.simulate.Goals as goal
 

@@ -1,9 +1,8 @@
-use Rattle.std.proofs.Common.{◌≡◌, ◌-◌, ap, subst, sym, ◌∙◌}
-use Rattle.xif_signals.specs.declared.bus.Bus.{Bus}
+use Rattle.std.proofs.Common.{◌≡◌, ◌-◌, ap, subst, ◌∙◌}
 use Rattle.xif_signals.specs.Bus.{FitsWidths}
 use Rattle.cycle_spec.specs.Choices.{choices}
 use Rattle.cycle_spec.specs.Core.{learnt}
-use Rattle.cycle_spec.specs.Cycle.{Machines, cycle, bus_at, log_at}
+use Rattle.cycle_spec.specs.Cycle.{cycle, bus_at, log_at}
 use Rattle.xif_sim.specs.Simulating.{Simulating, turned, after_cycle}
 use Rattle.xif_sim.proofs.Turned.{turned-params}
 use Rattle.xif_sim.proofs.simulation.Simulation.next_cycle.Goals as goal
