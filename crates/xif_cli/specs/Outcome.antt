@@ -117,11 +117,16 @@ raw_outcome image count find = do
   bytes ← file_in which.Image longest_raw (find which.Image image)
   Ok (record { end = end.Done; text = raw_report bytes count })
 
+-- the report of a job
+abbrev pub report_in : Job → Lookup → Result Answer Status
+report_in job find = do
+  image ← image_of job find
+  Ok (record { end = end.Done; text = step_report job image })
+
 abbrev pub step_outcome : List ℕ → Lookup → Result Answer Status
 step_outcome name find = do
   job ← job_in true name find
-  image ← image_of job find
-  Ok (record { end = end.Done; text = step_report job image })
+  report_in job find
 
 -- the verdict on a waveform by a job
 abbrev pub verdict_in : Job → List ℕ → Lookup → Result Answer Status
