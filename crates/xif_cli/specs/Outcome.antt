@@ -126,18 +126,27 @@ raw_outcome image count find = do
   bytes ← file_in which.Image longest_raw (find which.Image image)
   Ok (prints end.Done (raw_report bytes count))
 
-abbrev pub step_outcome : List ℕ → Lookup → Result Answer Status
-step_outcome name find = do
-  job ← job_in true name find
+-- the report of a job
+abbrev pub report_in : Job → Lookup → Result Answer Status
+report_in job find = do
   image ← image_of job find
   Ok (prints end.Done (step_report job image))
 
+abbrev pub step_outcome : List ℕ → Lookup → Result Answer Status
+step_outcome name find = do
+  job ← job_in true name find
+  report_in job find
+
 -- a job and its image
+abbrev pub with_image : Job → Lookup → Result (Job × Placement) Status
+with_image job find = do
+  image ← image_of job find
+  Ok (job, image)
+
 abbrev pub loaded : List ℕ → Lookup → Result (Job × Placement) Status
 loaded name find = do
   job ← job_in true name find
-  image ← image_of job find
-  Ok (job, image)
+  with_image job find
 
 -- the files and the report of the run of a job with its image
 abbrev pub run_answer : Job → Placement → Answer
