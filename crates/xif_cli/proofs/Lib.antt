@@ -7,3 +7,4 @@ pub mod Judging
 pub mod Jobs
 pub mod Judged
 pub mod Concluding
+pub mod Stopping

@@ -2,6 +2,7 @@
 use Rattle.std.specs.Prelude.{ℕ, ◌++◌, ◌^◌, List, [], ◌∷◌, Option, Some, None, length, replicate}
 use Rattle.std.specs.Fmt.{decimal}
 use Rattle.xif_base.specs.declared.outside.Which.TheVariants as which
+use Rattle.xif_base.specs.declared.params.Params.{Params}
 use Rattle.cycle_spec.specs.Run.{Setup, Meaning, Run, run_of}
 use Rattle.cycle_spec.specs.declared.log.End.{End}
 use Rattle.cycle_spec.specs.declared.log.End.TheVariants.{Stopped, Budget}
@@ -67,11 +68,14 @@ run_by (kind.Listed targets) setup =
 -- ---- what is written
 
 -- the trace, with the waveform of the run (IEEE 1364-2005, clause 18), and the log
-abbrev pub targets_of : Job → Run → List Target
-targets_of job run =
-    record { which = which.Trace; name = job.trace; text = trace_text job.params run.buses }
-    ∷ record { which = which.Log; name = job.log; text = text_of run.logs }
+abbrev pub trace_and_log : Params → (trace log : List ℕ) → Run → List Target
+trace_and_log p trace log run =
+    record { which = which.Trace; name = trace; text = trace_text p run.buses }
+    ∷ record { which = which.Log; name = log; text = text_of run.logs }
     ∷ []
+
+abbrev pub targets_of : Job → Run → List Target
+targets_of job run = trace_and_log job.params job.trace job.log run
 
 -- what stopped a run, if something did
 abbrev pub stop_of : End → Option StopCause
