@@ -8,3 +8,4 @@ pub mod Jobs
 pub mod Judged
 pub mod Concluding
 pub mod Stopping
+pub mod Running
