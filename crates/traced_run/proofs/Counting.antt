@@ -31,7 +31,7 @@ turned-count h [] = refl
 turned-count h (x ∷ xs) =
     let split : filter_map h (reverse xs ++ x ∷ []) ≡ filter_map h (reverse xs) ++ cons_option (h x) [] = filter_map-append h (reverse xs) (x ∷ []) in
     let both : length (filter_map h (reverse xs) ++ cons_option (h x) []) ≡ length (filter_map h (reverse xs)) + length (cons_option (h x) []) = grind (arith, common_steps) in
-    let last = more (h x) [] in
+    let last : length (cons_option (h x) []) ≡ one_if (is_some (h x)) = omega (arith, more (h x) []) in
     let first = more (h x) (filter_map h xs) in
     let rest = turned-count h xs in
     ap (λ ys. length (filter_map h ys)) (reverse-more x xs) ∙ ap length split ∙ both ∙ ap (λ n. n + length (cons_option (h x) [])) rest

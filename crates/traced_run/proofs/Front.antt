@@ -5,6 +5,7 @@ use Rattle.std.proofs.lemmas.List.{reverse-append}
 use Rattle.xif_signals.specs.declared.bus.Bus.{Bus}
 use Rattle.cycle_spec.specs.declared.log.CycleLog.{CycleLog}
 use Rattle.cycle_spec.specs.State.{Core}
+use Rattle.cycle_spec.specs.Cycle.{bus_at}
 use Rattle.cycle_spec.specs.Run.{Setup, Meaning, Progress, run_of, next, unless, cycles_until, drained, with_drain, is_stopped, is_empty}
 use Rattle.xif_sim.specs.Simulating.{Simulating, progress_at, ended_from, Tells}
 use Rattle.traced_run.proofs.Counting.{reverse-more}
@@ -21,13 +22,11 @@ behind p q r first second = (second.0 ++ first.0, second.1 ∙ ap (λ bs. second
 
 until-extends : {P : Type 0} (m : Meaning P) (test : Core → Bool) (n : ℕ) (p : Progress P) → Extends p (cycles_until m test n p)
 until-extends m test zero p = stays p
-until-extends m test (suc n) p = go (test p.machines.core)
+until-extends m test (suc n) p = go (test p.machines.core) (until-extends m test n (next m p))
   where
-    go : (t : Bool) → Extends p (unless t p (λ q. cycles_until m test n (next m q)))
-    go true = stays p
-    go false =
-        let later = until-extends m test n (next m p) in
-        (later.0 ++ _ ∷ [], later.1 ∙ sym (append_assoc later.0 (_ ∷ []) p.buses))
+    go : (t : Bool) → Extends (next m p) (cycles_until m test n (next m p)) → Extends p (unless t p (λ q. cycles_until m test n (next m q)))
+    go true later = stays p
+    go false later = (later.0 ++ bus_at p.machines 0 ∷ [], later.1 ∙ sym (append_assoc later.0 (bus_at p.machines 0 ∷ []) p.buses))
 
 drained-extends : {P : Type 0} (m : Meaning P) (limit : ℕ) (p : Progress P) → Extends p (drained m limit p)
 drained-extends m limit p = go (is_stopped p.machines.core || is_empty p.machines.core)

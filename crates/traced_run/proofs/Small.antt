@@ -20,10 +20,10 @@ both n b (x ∷ xs) ys h k = both n (max b x) xs ys h k
 
 script-small : (s : Lists) → IsLawful s → largest_of s ≤ 200
 script-small s l =
-    both 200 0 s.issue _ l.issue.small
-    (both 200 0 s.register _ l.register.small
-    (both 200 0 s.operand _ l.operand.small
-    (both 200 0 s.result _ l.result.small l.take.small)))
+    both 200 0 (s.issue ++ s.register ++ s.operand ++ s.result) s.take
+    (both 200 0 (s.issue ++ s.register ++ s.operand) s.result
+    (both 200 0 (s.issue ++ s.register) s.operand
+    (both 200 0 s.issue s.register l.issue.small l.register.small) l.operand.small) l.result.small) l.take.small
 
 product-small : (a b : ℕ) → a ≤ 32 → b ≤ 1640 → a * b ≤ 52480
 product-small a b h k = grind (arith, h, k)
