@@ -1,6 +1,6 @@
 -- Telling a run cycle by cycle.
 use Rattle.std.proofs.Common.{◌≡◌, ◌≤◌, ◌<◌, ◌+◌, ◌^◌, ◌++◌, ℕ, List, [], ◌∷◌, reverse, length, Option, Bool, true, false, refl, sym, ap, subst, ◌∙◌, arith}
-use Rattle.std.specs.Prelude.{IsTrue}
+use Rattle.std.specs.Prelude.{IsTrue, Result, Ok, Err, IsErrAnd}
 use Rattle.xif_base.specs.Files.{Files}
 use Rattle.xif_signals.specs.declared.bus.Bus.{Bus}
 use Rattle.cycle_spec.specs.declared.log.CycleLog.{CycleLog}
@@ -115,3 +115,11 @@ module _ {P : Type 0} (m : Meaning P) (setup : Setup) (first : P) where
 pub not-true : (b : Bool) → (IsTrue b → ⊥) → b ≡ false
 not-true true h = absurd (h refl)
 not-true false h = refl
+
+-- the error that a `?` passes on
+err-of : {T E : Type 0} (e fail : E) → (let r : Result T E = Err e in r) ≡ Err fail → e ≡ fail
+err-of e fail same = cc
+
+pub same-err : {T E : Type 0} (r : Result T E) (y fail : E) → IsErrAnd r (λ e. e ≡ y) → r ≡ Err fail → y ≡ fail
+same-err (Ok x) y fail is same = absurd is
+same-err {T = T} (Err e) y fail is same = sym is ∙ err-of {T = T} e fail same
