@@ -11,6 +11,7 @@
 #![tactic(auto)]
 
 mod answer;
+mod generate;
 mod inorder;
 mod judge;
 mod laws;
@@ -20,10 +21,12 @@ mod program;
 mod raw;
 mod read;
 mod report;
+mod run;
 mod status;
 mod step;
 mod verdict;
 mod words;
+mod write_run;
 
 pub use laws::{judge_law, raw_law, step_law};
 pub use limits::{JOB_LIMIT, RAW_IMAGE_LIMIT, RAW_LIMIT, TEXT_IMAGE_LIMIT, WAVEFORM_LIMIT};

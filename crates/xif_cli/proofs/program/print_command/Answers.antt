@@ -1,7 +1,7 @@
 use Rattle.xif_cli.proofs.Concluding.{refuses, delivers, printed, untouched, no_targets, is_refusal}
 use Rattle.xif_cli.specs.Outcome.{command_outcome}
 use Rattle.xif_cli.specs.Words.{form_of}
-use Rattle.xif_cli.proofs.program.perform.Goals as goal
+use Rattle.xif_cli.proofs.program.print_command.Goals as goal
 
 pub returns-in-Ok-clause-concludes : goal.returns-in-Ok-clause-concludes
 returns-in-Ok-clause-concludes g c =
