@@ -2,6 +2,7 @@ pub mod Mapped
 pub mod Harts
 pub mod Keys
 pub mod Kept
+pub mod Narrow
 pub mod Latest
 pub mod New
 pub mod Copied

@@ -5,9 +5,11 @@ use Rattle.std.specs.List.{IsDistinct}
 use Rattle.std.proofs.lemmas.List.{length-replicate}
 use Rattle.std.proofs.lemmas.List.Elements.{All-nil}
 use Rattle.xif_base.specs.declared.params.Params.{Params}
+use Rattle.xif_signals.specs.declared.signal.Signal.TheVariants.{ResultData, ResultWe}
+use Rattle.xif_signals.specs.Signal.{width_of}
 use Rattle.coproc_config.specs.Set.{UnitTable}
 use Rattle.coproc_config.specs.State.{IsStateOf, zeros}
-use Rattle.coproc_engine.specs.Fits.{HasEntry, IsKey, AreUses, AreUnits, ahead_in_harts, room_of}
+use Rattle.coproc_engine.specs.Fits.{HasEntry, IsKey, IsNarrow, AreUses, AreUnits, ahead_in_harts, room_of}
 
 none_same : IsDistinct nat_eq []
 unfolding IsDistinct
@@ -16,6 +18,7 @@ none_same = tt
 pub no_uses : (p : Params) (set : List UnitTable) (room : ℕ) → room_of p ≤ room → AreUses p set [] room
 no_uses p set room h = record {
   entries = All-nil (HasEntry set);
+  narrow = All-nil (IsNarrow (width_of ResultWe p) (width_of ResultData p));
   keys = record { each = All-nil (IsKey p); distinct = none_same };
   fits = h;
 }

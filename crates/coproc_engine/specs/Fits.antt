@@ -1,5 +1,5 @@
 -- Which keys there are, and (internal) what holds of the counts and lists of an engine.
-use Rattle.std.specs.Prelude.{◌≡◌, ◌<◌, ◌≤◌, ◌+◌, ◌*◌, ◌^◌, ℕ, List, [], ◌∷◌, IfSome, IsSome, All, length, map, nat_eq}
+use Rattle.std.specs.Prelude.{◌≡◌, ◌<◌, ◌≤◌, ◌+◌, ◌*◌, ◌^◌, ℕ, List, [], ◌∷◌, Option, Some, IfSome, All, length, map, nat_eq}
 use Rattle.std.specs.List.{IsDistinct}
 use Rattle.xif_base.specs.declared.params.Params.{Params}
 use Rattle.xif_base.specs.declared.params.Key.{Key}
@@ -7,12 +7,17 @@ use Rattle.xif_base.specs.Params.{IsInRange}
 use Rattle.xif_drive.specs.Scripts.{Lists, IsLawful as IsLawfulScript}
 use Rattle.coproc_config.specs.Set.{UnitTable}
 use Rattle.coproc_config.specs.Check.{IsLawful as IsLawfulSet}
+use Rattle.coproc_config.specs.declared.accept.Hit.{Hit}
+use Rattle.coproc_config.specs.declared.operation.Entry.{Entry}
 use Rattle.coproc_config.specs.Accept.{entry_at}
+use Rattle.coproc_config.specs.Table.{operation_line, write_flags, result_bits}
 use Rattle.coproc_config.specs.State.{IsStateOf}
 use Rattle.cycle_spec.specs.declared.turn.Transactions.{Transactions}
 use Rattle.cycle_spec.specs.declared.use_of.Use.{Use}
 use Rattle.cycle_spec.specs.Counts.{AreCountedBy}
-use Rattle.cycle_spec.specs.Engine.{has_operands, units_behind}
+use Rattle.cycle_spec.specs.Engine.{has_operands, units_behind, writeback_of}
+use Rattle.xif_signals.specs.declared.signal.Signal.TheVariants.{ResultData, ResultWe}
+use Rattle.xif_signals.specs.Signal.{width_of}
 
 -- a key of the interface
 pub record IsKey (p : Params) (key : Key) : Type 0 where
@@ -27,9 +32,15 @@ pub record IsCounted (cycle accepted : ℕ) (issue register : Transactions) : Ty
   pub issues : AreCountedBy cycle issue
   pub registers : AreCountedBy cycle register
 
+-- there is the entry that is named, and a hit has the flags of what it writes
+pub record HasWritesOf (named : Option Entry) (hit : Hit) : Type 0 where
+  pub entry : Entry
+  pub there : named ≡ Some entry
+  pub writes : hit.writeback.0 ≡ write_flags (operation_line entry.op).writes
+
 -- the entry that takes a use is in the set
 abbrev pub HasEntry : List UnitTable → Use → Type 0
-HasEntry set u = IfSome u.hit (λ hit. IsSome (entry_at set hit))
+HasEntry set u = IfSome u.hit (λ hit. HasWritesOf (entry_at set hit) hit)
 
 abbrev pub HaveEntries : List UnitTable → List Use → Type 0
 HaveEntries set us = All (HasEntry set) us
@@ -48,6 +59,20 @@ pub record AreKeys (p : Params) (keys : List Key) : Type 0 where
 
 abbrev pub room_of : Params → ℕ
 room_of p = p.num_harts * 2 ^ p.id_width
+
+-- what a use writes has so many flags, and its result so many bits
+pub record IsNarrow (flags bits : ℕ) (u : Use) : Type 0 where
+  pub writes : writeback_of u.hit < 2 ^ flags
+  pub width : result_bits (writeback_of u.hit) ≤ bits
+  pub result : u.result < 2 ^ bits
+
+abbrev pub AreNarrow : (flags bits : ℕ) → List Use → Type 0
+AreNarrow flags bits us = All (IsNarrow flags bits) us
+
+-- a use fits the signals of the result channel
+pub record FitsResult (p : Params) (u : Use) : Type 0 where
+  pub key : IsKey p u.key
+  pub narrow : IsNarrow (width_of ResultWe p) (width_of ResultData p) u
 
 -- what params, set and script of an engine are
 pub record IsSetUp (p : Params) (set : List UnitTable) (script : Lists) : Type 0 where
@@ -71,5 +96,6 @@ ahead_in_harts set hart (state ∷ states) us =
 -- the uses, and their room
 pub record AreUses (p : Params) (set : List UnitTable) (us : List Use) (room : ℕ) : Type 0 where
   pub entries : HaveEntries set us
+  pub narrow : AreNarrow (width_of ResultWe p) (width_of ResultData p) us
   pub keys : AreKeys p (keys_of us)
   pub fits : room_of p ≤ room

@@ -1,15 +1,17 @@
 //! The engine: what the coprocessors drive in a cycle, and their state after it.
-ghost use Rattle.std.specs.Prelude.{◌≡◌, ◌&&◌, ◌<◌, ◌≤◌, ◌^◌, IfOk, IsTrue, Option, length, replicate, All};
+ghost use Rattle.std.specs.Prelude.{◌≡◌, ◌&&◌, ◌<◌, ◌≤◌, ◌^◌, IfOk, IfSome, IsTrue, Option, length, replicate, All};
 ghost use Rattle.xif_base.specs.Params.{IsInRange};
 ghost use Rattle.xif_base.specs.declared.params.Key.{Key};
 ghost use Rattle.xif_drive.specs.Scripts.{IsLawful as IsLawfulScript};
 ghost use Rattle.coproc_config.specs.Check.{IsLawful as IsLawfulSet};
+ghost use Rattle.coproc_config.specs.Accept.{IsAllowed};
 ghost use Rattle.coproc_config.specs.State.{zeros, IsStateOf};
 ghost use Rattle.cycle_spec.specs.State.{new_engine};
 ghost use Rattle.cycle_spec.specs.Engine.{engine_drive, engine_clock, units_of, units_ahead};
 ghost use Rattle.cycle_spec.specs.Engine as spec;
 ghost use Rattle.cycle_spec.specs.Turns as turns;
-ghost use Rattle.coproc_engine.specs.Fits.{IsKey, room_of};
+ghost use Rattle.coproc_engine.specs.Drives.{FitsCopOut};
+ghost use Rattle.coproc_engine.specs.Fits.{IsKey, FitsResult, room_of};
 
 use crate::ahead::look_ahead;
 use crate::find::{
@@ -105,15 +107,16 @@ impl Engine {
 
     /// What the coprocessors drive in a cycle in which the core drives `cpu`.
     pub fn drive(&self, cpu: &CpuOut) -> CopOut
-        ensures { result ≡ engine_drive self.now cpu.now }
+        ensures value { result ≡ engine_drive self.now cpu.now }
+        ensures fits { FitsCopOut self.now.params result }
+
+        // The parameters are in their ranges.
+        ensures params { IsInRange self.now.params }
     {
+        let _ = &self.params;
         let starts = self.starts(cpu);
         let issue_ready = self.issue_ready(starts, cpu);
-        let hit = if issue_ready {
-            self.offered_hit(cpu)
-        } else {
-            None
-        };
+        let hit = self.response_hit(issue_ready, cpu);
         let register_ready = self.register_ready(starts, issue_ready, cpu);
         cop_out(issue_ready, hit, register_ready, self.offered_use())
     }
@@ -213,9 +216,23 @@ impl Engine {
 
     /// What the units answer to the word.
     fn offered_hit(&self, cpu: &CpuOut) -> Option<Hit>
-        ensures { result ≡ spec.offered_hit self.now cpu.now }
+        ensures value { result ≡ spec.offered_hit self.now cpu.now }
+        ensures allowed { IfSome result (IsAllowed (self.now).params (cpu.now).issue_instr) }
     {
         self.set.accept(&self.params, cpu.issue_instr)
+    }
+
+    /// The same at the issue handshake.
+    fn response_hit(&self, issue_ready: bool, cpu: &CpuOut) -> Option<Hit>
+        requires { issue_ready ≡ spec.issue_ready self.now cpu.now }
+        ensures value { result ≡ spec.response_hit self.now cpu.now }
+        ensures allowed { IfSome result (IsAllowed (self.now).params (cpu.now).issue_instr) }
+    {
+        if issue_ready {
+            self.offered_hit(cpu)
+        } else {
+            None
+        }
     }
 
     fn issue_ready(&self, starts: bool, cpu: &CpuOut) -> bool
@@ -282,7 +299,8 @@ impl Engine {
 
     /// The use whose result is offered.
     fn offered_use(&self) -> Option<Use>
-        ensures { result ≡ spec.offered_use self.now }
+        ensures value { result ≡ spec.offered_use self.now }
+        ensures fits { IfSome result (FitsResult (self.now).params) }
     {
         offered_by(self.result_waiting, &self.script, self.cycle, &self.uses)
     }

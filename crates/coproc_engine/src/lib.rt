@@ -7,7 +7,8 @@
 //!
 //! The definitions are those of the crate `cycle_spec` (`State` and `Engine` there): an engine is
 //! seen as its record `Engine`, `drive` is `engine_drive`, and `clock` is `engine_clock`. Here
-//! `specs/Fits.antt` says which keys there are, and what holds of the lists that an engine keeps.
+//! `specs/Drives.antt` says that what is driven fits its signals, and `specs/Fits.antt` which keys
+//! there are, and what holds of the lists that an engine keeps.
 #![tactic(auto)]
 
 mod ahead;

@@ -1,10 +1,11 @@
 //! The units: the uses of a hart are applied in the order of their issue handshakes.
-ghost use Rattle.std.specs.Prelude.{◌≡◌, ◌<◌, length, All};
+ghost use Rattle.std.specs.Prelude.{◌≡◌, ◌<◌, ◌^◌, ℕ, length, All};
 ghost use Rattle.coproc_config.specs.Check.{IsLawful};
 ghost use Rattle.coproc_config.specs.State.{IsStateOf};
+ghost use Rattle.coproc_config.specs.Table.{result_bits};
 ghost use Rattle.xif_session.specs.Facts as session;
 ghost use Rattle.cycle_spec.specs.Engine as spec;
-ghost use Rattle.coproc_engine.specs.Fits.{HasEntry, HaveEntries};
+ghost use Rattle.coproc_engine.specs.Fits.{HasEntry, HaveEntries, IsNarrow, AreNarrow};
 
 use crate::find::{is_killed, register_read_of};
 use coproc_config::{Operands, Set, UnitState};
@@ -23,6 +24,8 @@ pub fn settle(set: &Set, cycle: u64, units: &mut [UnitState], uses: &mut [Use])
     ensures count { length units.new ≡ length units.old }
     ensures fits { All (IsStateOf set.now) units.new }
     ensures kept { HaveEntries set.now uses.new }
+    ensures narrow { (flags bits : ℕ) → AreNarrow flags bits uses.old
+        → AreNarrow flags bits uses.new }
 {
     for hart in 0..units.len() {
         settle_hart(set, cycle, hart as u8, &mut units[hart], uses);
@@ -39,6 +42,8 @@ fn settle_hart(set: &Set, cycle: u64, hart: u8, state: &mut UnitState, uses: &mu
         ≡ spec.units_behind set.now spec.is_complete hart state.old uses.old }
     ensures fits { IsStateOf set.now state.new }
     ensures kept { HaveEntries set.now uses.new }
+    ensures narrow { (flags bits : ℕ) → AreNarrow flags bits uses.old
+        → AreNarrow flags bits uses.new }
 {
     for i in 0..uses.len() {
         let entry = uses[i];
@@ -61,6 +66,7 @@ fn ready_now(set: &Set, cycle: u64, state: &mut UnitState, entry: Use) -> Use
         ≡ spec.with_ready cycle (spec.outcome_of set.now state.old entry).result entry }
     ensures state { state.new ≡ (spec.outcome_of set.now state.old entry).state }
     ensures fits { IsStateOf set.now state.new }
+    ensures narrow { (flags bits : ℕ) → IsNarrow flags bits entry → IsNarrow flags bits result }
 {
     Use {
         ready: Some(cycle),
@@ -77,6 +83,7 @@ pub fn apply(set: &Set, state: &mut UnitState, entry: &Use) -> u64
     ensures result { result ≡ (spec.outcome_of set.now state.old entry.now).result }
     ensures state { state.new ≡ (spec.outcome_of set.now state.old entry.now).state }
     ensures fits { IsStateOf set.now state.new }
+    ensures bits { result < 2 ^ result_bits (spec.writeback_of (entry.now).hit) }
 {
     match entry.hit {
         None => 0,

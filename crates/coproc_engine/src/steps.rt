@@ -3,9 +3,11 @@ ghost use Rattle.std.specs.Prelude.{◌≡◌, ◌<◌, ◌≤◌, not, length, 
 ghost use Rattle.xif_base.specs.Params.{IsInRange};
 ghost use Rattle.coproc_config.specs.Check.{IsLawful};
 ghost use Rattle.coproc_config.specs.Accept.{hit_of};
+ghost use Rattle.xif_signals.specs.declared.signal.Signal.TheVariants.{ResultData, ResultWe};
+ghost use Rattle.xif_signals.specs.Signal.{width_of};
 ghost use Rattle.xif_session.specs.Facts as session;
 ghost use Rattle.cycle_spec.specs.Engine as spec;
-ghost use Rattle.coproc_engine.specs.Fits.{HaveEntries};
+ghost use Rattle.coproc_engine.specs.Fits.{HaveEntries, AreNarrow};
 
 use crate::find::{commit_key, issue_key, latest, register_key, same_key};
 use coproc_config::{Hit, Set};
@@ -85,6 +87,9 @@ pub fn answer_step(
         ≡ spec.answer_step start (hit_of set.now params.now cpu.now.issue_instr) order cpu.now
         cop.now uses.old }
     ensures entries { HaveEntries set.now uses.old → HaveEntries set.now uses.new }
+    ensures narrow { let flags = width_of ResultWe params.now in
+        let bits = width_of ResultData params.now in
+        AreNarrow flags bits uses.old → AreNarrow flags bits uses.new }
 {
     if cpu.issue_valid && cop.issue_ready {
         let hit = set.accept(params, cpu.issue_instr);

@@ -96,15 +96,15 @@ with_drain p = record p {
   machines = record p.machines { core = drain_begun p.machines.core };
 }
 
--- a drain, unless the machine stopped or nothing is in flight
-abbrev pub drained : {P : Type 0} → Meaning P → Setup → Progress P → Progress P
-drained meaning s p =
+-- a drain of at most so many cycles, unless the machine stopped or nothing is in flight
+abbrev pub drained : {P : Type 0} → Meaning P → (limit : ℕ) → Progress P → Progress P
+drained meaning limit p =
     unless (is_stopped p.machines.core || is_empty p.machines.core) p
-    (λ q. cycles_until meaning is_empty (drain_limit s) (with_drain q))
+    (λ q. cycles_until meaning is_empty limit (with_drain q))
 
 abbrev pub progress_of : {P : Type 0} → Meaning P → Setup → P → Progress P
 progress_of meaning s predictor =
-    drained meaning s (cycles_until meaning is_stopped s.budget (start s predictor))
+    drained meaning (drain_limit s) (cycles_until meaning is_stopped s.budget (start s predictor))
 
 -- ---- what a run leaves
 

@@ -20,7 +20,7 @@ use Rattle.flight_table.proofs.Order.{at_least, youngest, Youngest, older_is_you
 
 -- ---- a new youngest entry
 
-last_miss : (p : Entry → Bool) (o : Option Entry) (xs : List Entry) (x : Entry) → p x ≡ false → last_or o (filter p (xs ++ x ∷ [])) ≡ last_or o (filter p xs)
+pub last_miss : (p : Entry → Bool) (o : Option Entry) (xs : List Entry) (x : Entry) → p x ≡ false → last_or o (filter p (xs ++ x ∷ [])) ≡ last_or o (filter p xs)
 last_miss p o [] x h = ap (λ t. last_or o (cond t (x ∷ []) [])) h
 last_miss p o (y ∷ ys) x h = grind (arith, last_miss p (Some y) ys x h, last_miss p o ys x h)
 

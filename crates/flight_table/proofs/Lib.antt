@@ -2,4 +2,6 @@ pub mod Scans
 pub mod Order
 pub mod Indexed
 pub mod Slots
+pub mod OlderOnes
 pub mod Kept
+pub mod Counts

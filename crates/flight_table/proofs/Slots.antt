@@ -7,29 +7,29 @@ use Rattle.flight_table.specs.Table.{writer_of}
 use Rattle.flight_table.specs.Index.{first_target}
 use Rattle.flight_table.proofs.Indexed.{no_target}
 
--- a new youngest entry is noted at its first target and behind it
-pub noted : (dual_write : Bool) (e : Entry) (old mid new : List (Option ℕ)) (a b : ℕ) → a ≡ first_target e → b ≡ min (a + 1) 255
-    → (a < 32 → slice_get mid a ≡ (if may_write dual_write a e then Some (Some e.seq) else slice_get old a)) → ((r : ℕ) → r ≢ a → slice_get mid r ≡ slice_get old r)
-    → (b < 32 → slice_get new b ≡ (if may_write dual_write b e then Some (Some e.seq) else slice_get mid b)) → ((r : ℕ) → r ≢ b → slice_get new r ≡ slice_get mid r)
-    → (r : ℕ) → r < 32 → slice_get new r ≡ (if may_write dual_write r e then Some (Some e.seq) else slice_get old r)
-noted dual_write e old mid new a b a_is b_is named_a others_a named_b others_b r l =
+-- of a new youngest entry something is noted at its first target and behind it
+pub noted : {A : Type 0} (v : A) (dual_write : Bool) (e : Entry) (old mid new : List A) (a b : ℕ) → a ≡ first_target e → b ≡ min (a + 1) 255
+    → (a < 32 → slice_get mid a ≡ (if may_write dual_write a e then Some v else slice_get old a)) → ((r : ℕ) → r ≢ a → slice_get mid r ≡ slice_get old r)
+    → (b < 32 → slice_get new b ≡ (if may_write dual_write b e then Some v else slice_get mid b)) → ((r : ℕ) → r ≢ b → slice_get new r ≡ slice_get mid r)
+    → (r : ℕ) → r < 32 → slice_get new r ≡ (if may_write dual_write r e then Some v else slice_get old r)
+noted v dual_write e old mid new a b a_is b_is named_a others_a named_b others_b r l =
     ⊎_elim at_b (λ n. ⊎_elim (at_a n) (elsewhere n) (cases_eq r a)) (cases_eq r b)
   where
     Noted : ℕ → Type 0
-    Noted k = slice_get new k ≡ (if may_write dual_write k e then Some (Some e.seq) else slice_get old k)
+    Noted k = slice_get new k ≡ (if may_write dual_write k e then Some v else slice_get old k)
 
     at_b : r ≡ b → Noted r
     at_b q = subst Noted (sym q)
-        (named_b (omega (arith, q)) ∙ ap (λ x. if may_write dual_write b e then Some (Some e.seq) else x) (others_a b (λ k. absurd (omega (arith, k, q, b_is, l)))))
+        (named_b (omega (arith, q)) ∙ ap (λ x. if may_write dual_write b e then Some v else x) (others_a b (λ k. absurd (omega (arith, k, q, b_is, l)))))
 
     at_a : r ≢ b → r ≡ a → Noted r
-    at_a n q = others_b r n ∙ subst (λ k. slice_get mid k ≡ (if may_write dual_write k e then Some (Some e.seq) else slice_get old k)) (sym q) (named_a (omega (arith, q)))
+    at_a n q = others_b r n ∙ subst (λ k. slice_get mid k ≡ (if may_write dual_write k e then Some v else slice_get old k)) (sym q) (named_a (omega (arith, q)))
 
     elsewhere : r ≢ b → r ≢ a → Noted r
     elsewhere n m =
         let past : r ≢ first_target e + 1 = λ k. n (omega (arith, k, a_is, b_is, l)) in
         others_b r n ∙ others_a r m
-        ∙ sym (ap (λ t. if t then Some (Some e.seq) else slice_get old r) (no_target dual_write r e (λ k. m (k ∙ sym a_is)) past))
+        ∙ sym (ap (λ t. if t then Some v else slice_get old r) (no_target dual_write r e (λ k. m (k ∙ sym a_is)) past))
 
 -- what is so of a register, whose writer is mended or old enough
 abbrev pub MendedOr : (dual_write : Bool) → List Entry → (seq : ℕ) → (old new : List (Option ℕ)) → ℕ → Type 0

@@ -1,7 +1,7 @@
 //! The changes of entries, by their numbers.
 ghost use Rattle.std.specs.Prelude.{◌≡◌, map};
 ghost use Rattle.circular_buffer.specs.Buffer.{buffer};
-ghost use Rattle.cycle_spec.specs.Flight.{with_response};
+ghost use Rattle.cycle_spec.specs.Flight.{with_release, with_response};
 ghost use Rattle.flight_table.specs.Change.{changed};
 
 use crate::entry::is_accepted;
@@ -36,55 +36,57 @@ fn change_slice(entries: &mut [Entry], seq: u64, change: Change)
     ensures { entries.new ≡ map (changed change seq) entries.old }
 {
     for entry in entries.iter_mut() {
-        *entry = changed(*entry, seq, change);
+        change_entry(entry, seq, change);
     }
 }
 
-fn changed(entry: Entry, seq: u64, change: Change) -> Entry
-    ensures { result ≡ changed change seq entry }
+/// In place, so that no entry is copied.
+fn change_entry(entry: &mut Entry, seq: u64, change: Change)
+    ensures { entry.new ≡ changed change seq entry.old }
 {
-    let is_named = entry.seq == seq;
+    if let Change::Release = change {
+        release(entry, seq);
+    } else if entry.seq == seq {
+        change_named(entry, change);
+    }
+}
+
+fn release(entry: &mut Entry, seq: u64)
+    ensures { entry.new ≡ with_release seq entry.old }
+{
+    if entry.seq <= seq && is_accepted(entry.response) {
+        entry.released = true;
+    }
+}
+
+/// The change of the entry that is named.
+fn change_named(entry: &mut Entry, change: Change)
+    ensures { entry.new ≡ changed change entry.old.seq entry.old }
+{
     match change {
-        Change::Response(response) if is_named => answered(entry, response),
-        Change::Sent => Entry {
-            operands_sent: entry.operands_sent || is_named,
-            ..entry
-        },
-        Change::Release => Entry {
-            released: entry.released || (entry.seq <= seq && is_accepted(entry.response)),
-            ..entry
-        },
-        Change::Result(write) if is_named => Entry {
-            done: true,
-            write,
-            ..entry
-        },
-        Change::Done { write, store, next } if is_named => Entry {
-            done: true,
-            write,
-            store,
-            next,
-            ..entry
-        },
-        Change::Stop(cause) if is_named => Entry {
-            stop: Some(cause),
-            ..entry
-        },
-        _ => entry,
+        Change::Response(response) => answer(entry, response),
+        Change::Sent => entry.operands_sent = true,
+        Change::Release => release(entry, entry.seq),
+        Change::Result(write) => {
+            entry.done = true;
+            entry.write = write;
+        }
+        Change::Done { write, store, next } => {
+            entry.done = true;
+            entry.write = write;
+            entry.store = store;
+            entry.next = next;
+        }
+        Change::Stop(cause) => entry.stop = Some(cause),
     }
 }
 
 /// A refused word stops the machine.
-fn answered(entry: Entry, response: Response) -> Entry
-    ensures { result ≡ with_response entry.seq response entry }
+fn answer(entry: &mut Entry, response: Response)
+    ensures { entry.new ≡ with_response entry.old.seq response entry.old }
 {
-    Entry {
-        response: Some(response),
-        stop: if response.accept {
-            entry.stop
-        } else {
-            Some(StopCause::Illegal)
-        },
-        ..entry
+    entry.response = Some(response);
+    if !response.accept {
+        entry.stop = Some(StopCause::Illegal);
     }
 }

@@ -5,11 +5,54 @@ ghost use Rattle.rv32_table.specs.Instr.{target_of};
 ghost use Rattle.inorder_machine.specs.Execute as execute;
 ghost use Rattle.xif_session.specs.Facts as session;
 ghost use Rattle.cycle_spec.specs.Flight as flight;
+ghost use Rattle.flight_table.specs.Wanted.{passes};
 
 use cycle_spec::{Entry, EntryKind};
 use inorder_machine::{StopCause, Write};
 use rv32_table::{Instr, Kind, Row, rd_field};
 use xif_session::Response;
+
+/// What an entry is looked for by.
+#[derive(Clone, Copy, Debug, PartialEq, Eq)]
+pub enum Wanted {
+    /// An unknown word that had no issue handshake.
+    Open,
+    /// An accepted use that reads registers, and had no register handshake.
+    Waiting,
+    /// A use that had its issue handshake, and that no commit released.
+    Pending,
+    /// The entry of a number.
+    Number(u64),
+}
+
+pub(crate) fn passes(wanted: Wanted, entry: &Entry) -> bool
+    ensures { result ≡ passes wanted entry.now }
+{
+    match wanted {
+        Wanted::Open => is_unknown(entry) && entry.response.is_none(),
+        Wanted::Waiting => reads_registers(entry.response) && !entry.operands_sent,
+        Wanted::Pending => is_pending(entry),
+        Wanted::Number(seq) => entry.seq == seq,
+    }
+}
+
+fn is_unknown(entry: &Entry) -> bool
+    ensures { result ≡ flight.is_unknown entry.now }
+{
+    match entry.kind {
+        EntryKind::Unknown => true,
+        EntryKind::Local(_) | EntryKind::Nowhere => false,
+    }
+}
+
+fn reads_registers(response: Option<Response>) -> bool
+    ensures { result ≡ flight.reads_registers response }
+{
+    match response {
+        Some(response) => response.accept && response.register_read.bits() != 0,
+        None => false,
+    }
+}
 
 pub(crate) fn is_accepted(response: Option<Response>) -> bool
     ensures { result ≡ session.is_accepted response }
@@ -139,8 +182,31 @@ pub(crate) fn value_in(write: Write, register: u8) -> u32
     }
 }
 
+/// An entry as it is dispatched. The word is 0 where there is none, and so is the id but for an
+/// unknown word.
+pub fn new_entry(seq: u64, pc: u32, kind: EntryKind, word: u32, predicted: u32, id: u16) -> Entry
+    ensures { result ≡ flight.new_entry seq pc kind word predicted id }
+{
+    Entry {
+        seq,
+        pc,
+        word,
+        kind,
+        predicted,
+        id,
+        stop: stop_by(kind),
+        done: false,
+        write: Write::None,
+        store: None,
+        next: pc.wrapping_add(4),
+        response: None,
+        operands_sent: false,
+        released: false,
+    }
+}
+
 /// What stops the machine from the dispatch on.
-pub(crate) fn stop_by(kind: EntryKind) -> Option<StopCause>
+fn stop_by(kind: EntryKind) -> Option<StopCause>
     ensures { result ≡ flight.stop_by kind }
 {
     match kind {

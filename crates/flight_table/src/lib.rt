@@ -12,11 +12,13 @@
 
 mod change;
 mod entry;
+mod older;
 mod registers;
 mod search;
 mod table;
 mod writers;
 
 pub use cycle_spec::{Entry, EntryKind, Operand};
+pub use entry::{Wanted, new_entry};
 pub use registers::Registers;
 pub use table::FlightTable;

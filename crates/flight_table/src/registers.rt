@@ -26,6 +26,15 @@ impl Registers {
         Registers { values: [0; 32] }
     }
 
+    /// A copy, which does not change with these registers.
+    pub fn copy(&self) -> Registers
+        ensures { result ≡ self.now }
+    {
+        Registers {
+            values: self.values,
+        }
+    }
+
     /// The value of the register x`i`.
     pub fn get(&self, i: u8) -> u32
         requires { i < 32 }
@@ -35,12 +44,11 @@ impl Registers {
     }
 
     /// Writes the register x`i`. A write to x0 changes nothing (RISC-V Unprivileged ISA, section
-    /// 2.1).
+    /// 2.1), and neither does one to a register that is none.
     pub fn set(&mut self, i: u8, value: u32)
-        requires { i < 32 }
         ensures { self.new ≡ (if i == 0 then self.old else slice_set self.old i value) }
     {
-        if i != 0 {
+        if i != 0 && i < 32 {
             self.values[usize::from(i)] = value;
         }
     }

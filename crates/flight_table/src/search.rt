@@ -1,9 +1,12 @@
 //! What is found among the entries of a ring, the oldest first.
-ghost use Rattle.std.specs.Prelude.{◌≡◌, ◌<◌, ◌≤◌, ◌+◌, ◌^◌, ◌++◌, ◌∷◌, [], List, find, length, take, drop, slice_get, Some};
+ghost use Rattle.std.specs.Prelude.{◌≡◌, ◌<◌, ◌≤◌, ◌+◌, ◌-◌, ◌^◌, ◌++◌, ◌∷◌, [], List, find, length, take, drop, slice_get, Some};
 ghost use Rattle.std.specs.List.{list_any};
 ghost use Rattle.cycle_spec.specs.Flight as flight;
+ghost use Rattle.flight_table.specs.Older.{IsOlder};
+ghost use Rattle.flight_table.specs.Wanted.{passes};
 
-use crate::entry::{holds_id, is_pending, is_safe, is_store, is_undecided, may_write, value_in};
+use crate::entry::{Wanted, holds_id, is_safe, is_undecided, may_write, passes, value_in};
+use crate::older::Older;
 use crate::registers::Registers;
 use circular_buffer::HeapCircularBuffer;
 use cycle_spec::{Entry, EntryKind, Operand};
@@ -20,6 +23,17 @@ pub(crate) fn entry_at(ring: &HeapCircularBuffer<Entry>, index: usize) -> &Entry
         Some(entry) => entry,
         None => unreachable!(),
     }
+}
+
+/// An entry among the `count` oldest ones.
+fn entry_within(ring: &HeapCircularBuffer<Entry>, count: usize, index: usize) -> &Entry
+    requires index { index < length ring.now.items }
+    requires count { index < count }
+    ensures rest { take (count - index) (drop index ring.now.items)
+        ≡ result.now ∷ take (count - (index + 1)) (drop (index + 1) ring.now.items) }
+    ensures older { take (index + 1) ring.now.items ≡ take index ring.now.items ++ result.now ∷ [] }
+{
+    entry_at(ring, index)
 }
 
 /// How many entries are older than the one of a number.
@@ -101,31 +115,74 @@ pub(crate) fn operand_from(file: &Registers, writer: Option<Entry>, register: u8
     }
 }
 
-/// The oldest entry that may execute.
-pub(crate) fn ready_oldest(
+/// The first of the `count` oldest entries that passes a test.
+pub(crate) fn first_among(
+    ring: &HeapCircularBuffer<Entry>,
+    count: usize,
+    wanted: Wanted,
+) -> Option<Entry>
+    ensures { result ≡ find (passes wanted) (take count ring.now.items) }
+{
+    for index in 0..ring.len() {
+        if index >= count {
+            return None;
+        }
+        let entry = entry_within(ring, count, index);
+        if passes(wanted, entry) {
+            return Some(*entry);
+        }
+    }
+    None
+}
+
+/// The first entry behind the `count` oldest ones that passes a test.
+pub(crate) fn first_behind(
+    ring: &HeapCircularBuffer<Entry>,
+    count: usize,
+    wanted: Wanted,
+) -> Option<Entry>
+    ensures { result ≡ find (passes wanted) (drop count ring.now.items) }
+{
+    for index in count..ring.len() {
+        let entry = entry_at(ring, index);
+        if passes(wanted, entry) {
+            return Some(*entry);
+        }
+    }
+    None
+}
+
+/// Whether an entry stops the machine.
+pub(crate) fn is_any_stopping(ring: &HeapCircularBuffer<Entry>) -> bool
+    ensures { result ≡ list_any flight.is_stopping ring.now.items }
+{
+    for index in 0..ring.len() {
+        if entry_at(ring, index).stop.is_some() {
+            return true;
+        }
+    }
+    false
+}
+
+/// The oldest of the `count` oldest entries that may execute.
+pub(crate) fn ready_among(
     ring: &HeapCircularBuffer<Entry>,
     file: &Registers,
     dual_write: bool,
+    count: usize,
 ) -> Option<Entry>
-    ensures { result ≡ flight.ready_oldest dual_write file.now ring.now.items }
+    ensures { result ≡ flight.ready_oldest dual_write file.now (take count ring.now.items) }
 {
-    let mut older_store = false;
-    let mut older_pending = false;
+    let mut older = Older::none();
     for index in 0..ring.len() {
-        let entry = entry_at(ring, index);
-        if may_execute(
-            ring,
-            file,
-            dual_write,
-            index,
-            entry,
-            older_store,
-            older_pending,
-        ) {
+        if index >= count {
+            return None;
+        }
+        let entry = entry_within(ring, count, index);
+        if may_execute(ring, file, dual_write, index, entry, &older) {
             return Some(*entry);
         }
-        older_store = older_store || is_store(entry);
-        older_pending = older_pending || is_pending(entry);
+        older.note(dual_write, entry);
     }
     None
 }
@@ -136,12 +193,10 @@ fn may_execute(
     dual_write: bool,
     count: usize,
     entry: &Entry,
-    older_store: bool,
-    older_pending: bool,
+    older: &Older,
 ) -> bool
     requires count { count ≤ length ring.now.items }
-    requires store { older_store ≡ list_any flight.is_store (take count ring.now.items) }
-    requires pending { older_pending ≡ list_any flight.is_pending (take count ring.now.items) }
+    requires older { IsOlder dual_write file.now (take count ring.now.items) older.now }
     ensures { result
         ≡ flight.may_execute dual_write file.now (take count ring.now.items) entry.now }
 {
@@ -150,8 +205,8 @@ fn may_execute(
     }
     match entry.kind {
         EntryKind::Local(instr) => {
-            are_sources_here(ring, file, dual_write, count, &instr)
-                && !is_held_back(instr.kind(), older_store, older_pending)
+            are_sources_here(ring, file, dual_write, count, older, &instr)
+                && !is_held_back(instr.kind(), older.store, older.pending)
         }
         EntryKind::Unknown | EntryKind::Nowhere => false,
     }
@@ -174,15 +229,17 @@ fn are_sources_here(
     file: &Registers,
     dual_write: bool,
     count: usize,
+    older: &Older,
     instr: &Instr,
 ) -> bool
-    requires { count ≤ length ring.now.items }
+    requires count { count ≤ length ring.now.items }
+    requires older { IsOlder dual_write file.now (take count ring.now.items) older.now }
     ensures { result
         ≡ flight.are_sources_here dual_write file.now (take count ring.now.items) instr.now }
 {
     let (first, second) = instr.sources();
-    is_source_here(ring, file, dual_write, count, first)
-        && is_source_here(ring, file, dual_write, count, second)
+    is_source_here(ring, file, dual_write, count, older, first)
+        && is_source_here(ring, file, dual_write, count, older, second)
 }
 
 fn is_source_here(
@@ -190,14 +247,17 @@ fn is_source_here(
     file: &Registers,
     dual_write: bool,
     count: usize,
+    older: &Older,
     source: Option<u8>,
 ) -> bool
-    requires { count ≤ length ring.now.items }
+    requires count { count ≤ length ring.now.items }
+    requires older { IsOlder dual_write file.now (take count ring.now.items) older.now }
     ensures { result ≡ flight.is_here
         (flight.source_behind dual_write file.now (take count ring.now.items) source) }
 {
     match source {
         None => true,
+        Some(register) if register < 32 => !older.waits[usize::from(register)],
         Some(register) => is_here(operand_behind(ring, file, dual_write, count, register)),
     }
 }
@@ -228,6 +288,20 @@ pub(crate) fn certain(ring: &HeapCircularBuffer<Entry>) -> Option<Entry>
     youngest
 }
 
+/// The youngest released use.
+pub(crate) fn youngest_released(ring: &HeapCircularBuffer<Entry>) -> Option<Entry>
+    ensures { result ≡ flight.youngest_released ring.now.items }
+{
+    let mut youngest = None;
+    for index in 0..ring.len() {
+        let entry = entry_at(ring, index);
+        if entry.released {
+            youngest = Some(*entry);
+        }
+    }
+    youngest
+}
+
 /// The least id that no unknown word holds: of more ids than there are entries one is free.
 pub(crate) fn free_id(ring: &HeapCircularBuffer<Entry>) -> u16
     requires { length ring.now.items < 2 ^ 15 }
@@ -251,4 +325,17 @@ fn is_held(ring: &HeapCircularBuffer<Entry>, id: u16) -> bool
         }
     }
     false
+}
+
+/// The oldest unknown word that holds an id.
+pub(crate) fn holder_of(ring: &HeapCircularBuffer<Entry>, id: u16) -> Option<Entry>
+    ensures { result ≡ find (flight.holds_id id) ring.now.items }
+{
+    for index in 0..ring.len() {
+        let entry = entry_at(ring, index);
+        if holds_id(entry, id) {
+            return Some(*entry);
+        }
+    }
+    None
 }

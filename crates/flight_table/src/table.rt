@@ -1,16 +1,19 @@
 //! The table of the instructions in flight.
-ghost use Rattle.std.specs.Prelude.{◌≡◌, ◌<◌, ◌≤◌, ◌+◌, ◌^◌, ◌++◌, ◌∷◌, [], ℕ, length, take, map, IfOk, slice_get, Some, None, true};
+ghost use Rattle.std.specs.Prelude.{◌≡◌, ◌<◌, ◌≤◌, ◌+◌, ◌^◌, ◌++◌, ◌∷◌, [], ℕ, length, take, drop, find, map, IfOk, slice_get, Some, None, true};
 ghost use Rattle.std.specs.Option.{option_map};
+ghost use Rattle.std.specs.List.{list_any};
 ghost use Rattle.circular_buffer.specs.Buffer.{buffer};
 ghost use Rattle.cycle_spec.specs.Flight as flight;
 ghost use Rattle.flight_table.specs.Change.{changed, keeps_response};
 ghost use Rattle.flight_table.specs.Table.{writer_of, line_with};
+ghost use Rattle.flight_table.specs.Wanted.{passes};
 
 use crate::change::{Change, change_all};
-use crate::entry::stop_by;
+use crate::entry::{Wanted, new_entry};
 use crate::registers::Registers;
 use crate::search::{
-    certain, entry_at, entry_of, free_id, operand_from, place_of, ready_oldest, youngest_writer,
+    certain, entry_at, entry_of, first_among, first_behind, free_id, holder_of, is_any_stopping,
+    operand_from, place_of, ready_among, youngest_released, youngest_writer,
 };
 use crate::writers::{Writers, forget, mend, mend_younger, note};
 use circular_buffer::HeapCircularBuffer;
@@ -90,6 +93,44 @@ impl FlightTable {
         *entry_at(&self.ring, usize::from(i))
     }
 
+    /// An entry where it lies, counted from the oldest, which is 0.
+    pub fn entry(&self, index: u8) -> &Entry
+        requires { index < length self.now.entries }
+        ensures value { slice_get self.now.entries index ≡ Some result.now }
+        ensures rest { drop index self.now.entries
+            ≡ result.now ∷ drop (index + 1) self.now.entries }
+    {
+        entry_at(&self.ring, usize::from(index))
+    }
+
+    /// The first of the `count` oldest entries that is as wanted.
+    pub fn first_among(&self, count: u8, wanted: Wanted) -> Option<Entry>
+        ensures { result ≡ find (passes wanted) (take count self.now.entries) }
+    {
+        first_among(&self.ring, usize::from(count), wanted)
+    }
+
+    /// The first entry behind the `count` oldest ones that is as wanted.
+    pub fn first_behind(&self, count: u8, wanted: Wanted) -> Option<Entry>
+        ensures { result ≡ find (passes wanted) (drop count self.now.entries) }
+    {
+        first_behind(&self.ring, usize::from(count), wanted)
+    }
+
+    /// How many entries there are up to the one of a number, with itself.
+    pub fn count_through(&self, seq: u64) -> u8
+        ensures { result ≡ flight.count_through seq self.now.entries }
+    {
+        (place_of(&self.ring, seq) + 1) as u8
+    }
+
+    /// Whether an entry stops the machine.
+    pub fn is_any_stopping(&self) -> bool
+        ensures { result ≡ list_any flight.is_stopping self.now.entries }
+    {
+        is_any_stopping(&self.ring)
+    }
+
     /// The ring that the entries lie in: the oldest is its first, and the window its capacity.
     pub fn ring(&self) -> &HeapCircularBuffer<Entry>
         ensures items { result.now.items ≡ self.now.entries }
@@ -121,26 +162,30 @@ impl FlightTable {
         } }
     {
         let seq = self.next_seq;
-        let entry = Entry {
-            seq,
-            pc,
-            word,
-            kind,
-            predicted,
-            id,
-            stop: stop_by(kind),
-            done: false,
-            write: Write::None,
-            store: None,
-            next: pc.wrapping_add(4),
-            response: None,
-            operands_sent: false,
-            released: false,
-        };
+        self.add(new_entry(seq, pc, kind, word, predicted, id));
+        seq
+    }
+
+    /// The number of the next entry.
+    pub fn next_seq(&self) -> u64
+        ensures { result ≡ self.now.next_seq }
+    {
+        self.next_seq
+    }
+
+    /// Adds an entry that was made ahead, as the youngest.
+    pub fn add(&mut self, entry: Entry)
+        requires room { length self.old.entries < self.old.window }
+        requires next { self.old.next_seq < 2 ^ 63 }
+        requires number { entry.seq ≡ self.old.next_seq }
+        ensures { self.new ≡ record self.old {
+          next_seq = self.old.next_seq + 1;
+          entries = self.old.entries ++ entry ∷ [];
+        } }
+    {
         note(&mut self.writers, self.dual_write, &entry);
         push(&mut self.ring, entry);
         self.next_seq += 1;
-        seq
     }
 
     /// The register x`register` as the entry of a number reads it: what the youngest older entry
@@ -157,7 +202,15 @@ impl FlightTable {
         ensures { result ≡ option_map (λ e. e.seq)
             (flight.ready_oldest self.now.dual_write file.now self.now.entries) }
     {
-        seq_of(ready_oldest(&self.ring, file, self.dual_write))
+        seq_of(self.ready_among(self.len(), file))
+    }
+
+    /// The oldest of the `count` oldest entries that may execute.
+    pub fn ready_among(&self, count: u8, file: &Registers) -> Option<Entry>
+        ensures { result ≡ flight.ready_oldest
+            self.now.dual_write file.now (take count self.now.entries) }
+    {
+        ready_among(&self.ring, file, self.dual_write, usize::from(count))
     }
 
     /// The entry of a number executed: when it retires, it does this.
@@ -223,7 +276,21 @@ impl FlightTable {
     pub fn certain_until(&self) -> Option<u64>
         ensures { result ≡ option_map (λ e. e.seq) (flight.certain self.now.entries) }
     {
-        seq_of(certain(&self.ring))
+        seq_of(self.certain())
+    }
+
+    /// The youngest use that may be released, as it is.
+    pub fn certain(&self) -> Option<Entry>
+        ensures { result ≡ flight.certain self.now.entries }
+    {
+        certain(&self.ring)
+    }
+
+    /// The youngest released use.
+    pub fn youngest_released(&self) -> Option<Entry>
+        ensures { result ≡ flight.youngest_released self.now.entries }
+    {
+        youngest_released(&self.ring)
     }
 
     /// Removes the entries younger than the one of a number.
@@ -235,6 +302,18 @@ impl FlightTable {
         let older = place_of(&self.ring, seq);
         self.ring.truncate_back(older + 1);
         mend_younger(&mut self.writers, &self.ring, self.dual_write, seq);
+    }
+
+    /// Removes all entries but so many of the oldest.
+    pub fn keep(&mut self, count: u8)
+        ensures { self.new ≡ record self.old { entries = take count self.old.entries } }
+    {
+        if count == 0 {
+            self.cut_all();
+        } else if usize::from(count) < self.ring.len() {
+            let youngest = entry_at(&self.ring, usize::from(count - 1)).seq;
+            self.cut_after(youngest);
+        }
     }
 
     /// Removes all entries.
@@ -264,6 +343,13 @@ impl FlightTable {
         ensures { result ≡ flight.free_id self.now.entries }
     {
         free_id(&self.ring)
+    }
+
+    /// The unknown word that holds an id, the oldest if there are more.
+    pub fn holder_of(&self, id: u16) -> Option<Entry>
+        ensures { result ≡ find (flight.holds_id id) self.now.entries }
+    {
+        holder_of(&self.ring, id)
     }
 
     /// The youngest entry that is older than the one of a number and may write a register. By the

@@ -118,7 +118,7 @@ fn writer_of(ring: &HeapCircularBuffer<Entry>, dual_write: bool, register: u8) -
 }
 
 /// The first register that an entry may write. If it may write another, that is the one behind it.
-fn first_target(entry: &Entry) -> u8
+pub(crate) fn first_target(entry: &Entry) -> u8
     ensures { result ≡ first_target entry.now }
 {
     match entry.kind {

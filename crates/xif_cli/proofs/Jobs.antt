@@ -9,12 +9,13 @@ use Rattle.xif_base.specs.declared.params.ParamFault.{ParamFault}
 use Rattle.xif_base.specs.Checks.{first_failing}
 use Rattle.xif_base.specs.Params.{IsInRange, IsPortWidth, ranges, within, is_port_width, has_hartids}
 use Rattle.coproc_config.specs.Check.{checks}
+use Rattle.xif_drive.specs.Scripts.{script_fault, checked_by}
 use Rattle.xif_job.specs.declared.job.Job.{Job}
 use Rattle.xif_job.specs.declared.field.JobFault.{JobFault}
 use Rattle.xif_job.specs.Document.{document_of}
-use Rattle.xif_job.specs.FieldTable.{checked, params_of, memory_of, image_of, core_of, units_of, map_of, differ, lawful, job_of, is_unbuilt, table_names, read_of}
+use Rattle.xif_job.specs.FieldTable.{checked, params_of, memory_of, image_of, core_of, script_of, units_of, trace_of, map_of, lawful, drivable, job_of, table_names, read_of}
 use Rattle.xif_job.specs.Readers.{are_known}
-use Rattle.xif_job.specs.declared.field.JobFault.TheVariants.{NotToml, UnknownField, Unbuilt}
+use Rattle.xif_job.specs.declared.field.JobFault.TheVariants.{NotToml, UnknownField}
 use Rattle.xif_job.specs.Outcome.{◌>>=◌, unless}
 
 -- ---- the tests of the ranges
@@ -118,7 +119,6 @@ pub job_in_range : (needs_image : Bool) (bytes : List ℕ) → Gives HasParams (
 unfolding job_of params_of
 job_in_range needs_image bytes =
     behind HasParams (ok_or (document_of bytes) NotToml) _ (λ top _.
-    behind HasParams (unless (not (is_unbuilt top)) Unbuilt) _ (λ _ _.
     behind HasParams (unless (are_known table_names top) UnknownField) _ (λ _ _.
     behind HasParams (params_of top) _ (λ params read.
     let in_range : Gives IsInRange (params_of top) =
@@ -127,7 +127,9 @@ job_in_range needs_image bytes =
     behind HasParams (memory_of top) _ (λ memory _.
     behind HasParams (image_of needs_image memory.base top) _ (λ image _.
     behind HasParams (core_of params.id_width top) _ (λ core _.
+    behind HasParams (script_of top) _ (λ script _.
     behind HasParams (units_of top) _ (λ set _.
-    behind HasParams (differ image.source.file) _ (λ _ _.
+    behind HasParams (trace_of image.source.file top) _ (λ trace _.
     behind HasParams (map_of params top) _ (λ map _.
-    behind HasParams (lawful (first_failing (checks set))) _ (λ _ _. made _ (in_range params read))))))))))))
+    behind HasParams (lawful (first_failing (checks set))) _ (λ _ _.
+    behind HasParams (drivable (checked_by (script_fault script))) _ (λ _ _. made _ (in_range params read)))))))))))))

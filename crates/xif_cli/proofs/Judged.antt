@@ -17,13 +17,13 @@ use Rattle.xif_cli.specs.declared.answer.End.TheVariants.{Done, Illegal}
 use Rattle.xif_cli.specs.declared.status.Status.{Status}
 use Rattle.xif_cli.specs.Judged.{HasHistory, Names, legal_answer, illegal_answer}
 use Rattle.xif_cli.specs.Limits.{longest_job}
-use Rattle.xif_cli.specs.Outcome.{Lookup, Answer, ◌>>=◌, file_in, or_status, job_status, judge_status, verdict_in, judge_outcome}
+use Rattle.xif_cli.specs.Outcome.{Lookup, Answer, prints, ◌>>=◌, file_in, or_status, job_status, judge_status, verdict_in, judge_outcome}
 use Rattle.xif_cli.specs.Verdict.{end_by, text_by, judged_end, judged_text}
 use Rattle.xif_cli.proofs.Jobs.{job_in_range}
 
 -- the answer by the first fault of so many cycles
 abbrev answer_by : ℕ → Option Verdict → Answer
-answer_by cycles verdict = record { end = end_by verdict; text = text_by cycles verdict }
+answer_by cycles verdict = prints (end_by verdict) (text_by cycles verdict)
 
 judged_is : (job : Job) (text : List ℕ) (history : List (List Quad)) → HasHistory job text history
     → judged_of job.map job.params text ≡ Ok (record { cycles = length history; verdict = first_fault job.params history })
@@ -68,8 +68,8 @@ module _ (find : Lookup) (name waveform : List ℕ) (job : Job) (history : List 
   outcome_is : judge_outcome name waveform find ≡ Ok (answer_by (length history) (first_fault job.params history))
   outcome_is =
       ap (λ r. r >>= λ job. verdict_in job waveform find) names.is_job
-      ∙ ap (λ r. r >>= λ text. or_status judge_status (judged_of job.map job.params text) >>= λ judged. Ok (record { end = judged_end judged; text = judged_text judged })) names.is_waveform
-      ∙ ap (λ r. or_status judge_status r >>= λ judged. Ok (record { end = judged_end judged; text = judged_text judged })) (judged_is job names.text history names.has_history)
+      ∙ ap (λ r. r >>= λ text. or_status judge_status (judged_of job.map job.params text) >>= λ judged. Ok (prints (judged_end judged) (judged_text judged))) names.is_waveform
+      ∙ ap (λ r. or_status judge_status r >>= λ judged. Ok (prints (judged_end judged) (judged_text judged))) (judged_is job names.text history names.has_history)
 
   pub answers_legal : (judge_outcome name waveform find ≡ Ok (legal_answer (length history))) ↔ IsLegal job.params history
   answers_legal = (

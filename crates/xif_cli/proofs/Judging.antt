@@ -11,7 +11,7 @@ use Rattle.xif_cli.specs.declared.answer.End.{End}
 use Rattle.xif_cli.specs.declared.status.Status.{Status}
 use Rattle.xif_cli.specs.declared.status.Status.TheVariants.{ReadFault, NoMemory}
 use Rattle.xif_cli.specs.Limits.{longest_waveform}
-use Rattle.xif_cli.specs.Outcome.{Answer, Lookup, ◌>>=◌, file_in, or_status, judge_status}
+use Rattle.xif_cli.specs.Outcome.{Answer, prints, Lookup, ◌>>=◌, file_in, or_status, judge_status}
 use Rattle.xif_cli.specs.Verdict.{judged_end, judged_text}
 
 -- the two steps of `verdict_in`
@@ -19,7 +19,7 @@ abbrev pub waveform_in : List ℕ → Lookup → Result (List ℕ) Status
 waveform_in waveform find = file_in Waveform longest_waveform (find Waveform waveform)
 
 abbrev pub answer_by : Result Judged JudgeFail → Result Answer Status
-answer_by meant = or_status judge_status meant >>= (λ judged. Ok (record { end = judged_end judged; text = judged_text judged }))
+answer_by meant = or_status judge_status meant >>= (λ judged. Ok (prints (judged_end judged) (judged_text judged)))
 
 abbrev pub answer_to : Job → List ℕ → Result Answer Status
 answer_to job bytes = answer_by (judged_of job.map job.params bytes)
@@ -38,8 +38,8 @@ no_read_fault (judge.Map fault) r is w read = cc
 no_read_fault judge.NoMemory r is w read = cc
 
 -- a waveform that is judged has this answer
-pub answer-judged : (job : Job) (bytes : List ℕ) (judged : Judged) (end : End) (text : List ℕ) → judged_of job.map job.params bytes ≡ Ok judged → end ≡ judged_end judged → text ≡ judged_text judged → answer_to job bytes ≡ Ok (record { end = end; text = text })
-answer-judged job bytes judged end text meant ends prints =
+pub answer-judged : (job : Job) (bytes : List ℕ) (judged : Judged) (end : End) (text : List ℕ) → judged_of job.map job.params bytes ≡ Ok judged → end ≡ judged_end judged → text ≡ judged_text judged → answer_to job bytes ≡ Ok (prints end text)
+answer-judged job bytes judged end text meant ends text_is =
     ap answer_by meant
-    ∙ ap (λ e. Ok (record { end = e; text = judged_text judged })) (sym ends)
-    ∙ ap (λ t. Ok (record { end = end; text = t })) (sym prints)
+    ∙ ap (λ e. Ok (prints e (judged_text judged))) (sym ends)
+    ∙ ap (λ t. Ok (prints end t)) (sym text_is)

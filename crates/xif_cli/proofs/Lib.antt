@@ -1,9 +1,9 @@
 pub mod Forms
 pub mod Numbers
-pub mod Printed
 pub mod MemoryLines
 pub mod Reports
 pub mod Steps
 pub mod Judging
 pub mod Jobs
 pub mod Judged
+pub mod Concluding

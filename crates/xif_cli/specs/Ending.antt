@@ -55,11 +55,20 @@ has_job f = reads f which.Job
 abbrev pub is_judge : Form → Bool
 is_judge f = reads f which.Waveform
 
--- a fault of a job that is reported as one: that memory is out, and that a job's tables aren't
--- built yet, have statuses of their own
+-- a form that writes files, a trace and a log
+abbrev pub has_targets : Form → Bool
+has_targets (form.Run job) = true
+has_targets f = false
+
+-- the targets that a form writes
+abbrev pub writes : Form → Which → Bool
+writes f w =
+    is_built f && (is_same w which.Output
+    || (has_targets f && (is_same w which.Trace || is_same w which.Log)))
+
+-- a fault of a job that is reported as one: that memory is out has a status of its own
 abbrev pub is_job_fault : JobFault → Bool
 is_job_fault job.NoMemory = false
-is_job_fault job.Unbuilt = false
 is_job_fault fault = true
 
 -- likewise of an image
@@ -73,18 +82,25 @@ can_end f Done = is_built f
 can_end f Illegal = is_judge f
 can_end f Usage = false
 can_end f (ReadFault w) = reads f w
-can_end f (WriteFault w) = is_built f && is_same w which.Output
+can_end f (WriteFault w) = writes f w
 can_end f (Job fault) = has_job f && is_job_fault fault
 can_end f (Image fault) = has_job f && reads f which.Image && is_image_fault fault
 can_end f (Vcd fault) = is_judge f
 can_end f (Map fault) = is_judge f
 can_end f (TooBig w) = reads f w
 can_end f NoMemory = is_built f
-can_end f Unbuilt = has_job f || not (is_built f)
+can_end f Unbuilt = not (is_built f)
 
 -- a call raised a count of faults, and what was called didn't say that it would have none
 abbrev pub IsFaulted : (faultless : Type 0) (before now : ℕ) → Type 0
 IsFaulted faultless before now = Rose before now × ¬ faultless
+
+-- A fault was counted where a target is written: the output by the output, the others by the shelf.
+abbrev pub IsFaultedAt : (shelf_faulted output_faulted : Type 0) → Which → Type 0
+IsFaultedAt shelf_faulted output_faulted which.Trace = shelf_faulted
+IsFaultedAt shelf_faulted output_faulted which.Log = shelf_faulted
+IsFaultedAt shelf_faulted output_faulted which.Output = output_faulted
+IsFaultedAt shelf_faulted output_faulted w = ⊥
 
 -- a refusal because of what a file holds, or of a form that isn't built
 abbrev pub IsRefusalOfContent : Status → Type 0

@@ -10,7 +10,7 @@ use Rattle.xif_job.specs.declared.job.Job.{Job}
 use Rattle.xif_judge.specs.declared.verdict.Verdict.{Verdict}
 use Rattle.xif_cli.specs.declared.answer.End.TheVariants.{Done, Illegal}
 use Rattle.xif_cli.specs.Limits.{longest_waveform}
-use Rattle.xif_cli.specs.Outcome.{Lookup, Answer, file_in, job_in}
+use Rattle.xif_cli.specs.Outcome.{Lookup, Answer, prints, file_in, job_in}
 use Rattle.xif_cli.specs.Verdict.{legal_line, verdict_line}
 
 -- The text of a waveform has a reading, the job's map fits the variables that it declares, and
@@ -33,8 +33,8 @@ pub record Names (find : Lookup) (name waveform : List ℕ) (job : Job) (history
 
 -- the answer for so many cycles in which no rule fails
 abbrev pub legal_answer : ℕ → Answer
-legal_answer cycles = record { end = Done; text = legal_line cycles }
+legal_answer cycles = prints Done (legal_line cycles)
 
 -- the answer for a first fault
 abbrev pub illegal_answer : Verdict → Answer
-illegal_answer verdict = record { end = Illegal; text = verdict_line verdict }
+illegal_answer verdict = prints Illegal (verdict_line verdict)

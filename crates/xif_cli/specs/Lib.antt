@@ -7,5 +7,7 @@ pub mod Limits
 pub mod Outcome
 pub mod Judged
 pub mod Ending
+pub mod Afterwards
+pub mod Concluding
 pub mod Reading
 pub mod Printing

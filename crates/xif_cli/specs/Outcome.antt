@@ -1,6 +1,6 @@
--- What a command means where nothing fails: how it ends and the text that it prints, or its
--- refusal. The steps stand in the order in which refusals are reported.
-use Rattle.std.specs.Prelude.{◌==◌, ℕ, Bool, if◌then◌else◌, List, length, Option, Some, None, Result, Ok, Err, nat_le, true, false}
+-- What a command means where nothing fails: how it ends, the files that it writes and the text that
+-- it prints, or its refusal. The steps stand in the order in which refusals are reported.
+use Rattle.std.specs.Prelude.{◌==◌, ℕ, Bool, if◌then◌else◌, List, [], length, Option, Some, None, Result, Ok, Err, nat_le, true, false}
 use Rattle.std.specs.FinMap as map
 use Rattle.xif_base.specs.Files.{Files}
 use Rattle.xif_base.specs.declared.outside.Which.{Which}
@@ -18,6 +18,7 @@ use Rattle.xif_job.specs.declared.field.JobFault.TheVariants as job
 use Rattle.xif_job.specs.declared.image.ImageKind.{ImageKind}
 use Rattle.xif_job.specs.declared.image.ImageKind.TheVariants.{Text, Raw}
 use Rattle.xif_job.specs.declared.job.Job.{Job}
+use Rattle.xif_targets.specs.Targets.{Target}
 use Rattle.xif_cli.specs.declared.answer.End.{End}
 use Rattle.xif_cli.specs.declared.answer.End.TheVariants as end
 use Rattle.xif_cli.specs.declared.status.Status.{Status}
@@ -69,7 +70,6 @@ file_in which limit (Some bytes) =
 -- the status of a job's fault, and of an image's
 abbrev pub job_status : JobFault → Status
 job_status job.NoMemory = status.NoMemory
-job_status job.Unbuilt = status.Unbuilt
 job_status fault = status.Job fault
 
 abbrev pub image_status : ImageFault → Status
@@ -103,10 +103,16 @@ image_of job find = do
   bytes ← file_in which.Image (longest_image job.image.kind) (find which.Image job.image.file)
   or_status image_status (image_by job.image.kind job bytes)
 
--- how a command ends that isn't refused, and the text that it prints
+-- how a command ends that isn't refused, the files that it writes, in order, and the text that it
+-- prints behind them
 pub record Answer : Type 0 where
   pub end : End
-  pub text : List ℕ
+  pub targets : List Target
+  pub printed : List ℕ
+
+-- the answer of a command that writes no file
+abbrev pub prints : End → List ℕ → Answer
+prints end text = record { end = end; targets = []; printed = text }
 
 -- the status of a command that ends so
 abbrev pub end_status : End → Status
@@ -116,20 +122,20 @@ end_status end.Illegal = status.Illegal
 abbrev pub raw_outcome : List ℕ → ℕ → Lookup → Result Answer Status
 raw_outcome image count find = do
   bytes ← file_in which.Image longest_raw (find which.Image image)
-  Ok (record { end = end.Done; text = raw_report bytes count })
+  Ok (prints end.Done (raw_report bytes count))
 
 abbrev pub step_outcome : List ℕ → Lookup → Result Answer Status
 step_outcome name find = do
   job ← job_in true name find
   image ← image_of job find
-  Ok (record { end = end.Done; text = step_report job image })
+  Ok (prints end.Done (step_report job image))
 
 -- the verdict on a waveform by a job
 abbrev pub verdict_in : Job → List ℕ → Lookup → Result Answer Status
 verdict_in job waveform find = do
   bytes ← file_in which.Waveform longest_waveform (find which.Waveform waveform)
   judged ← or_status judge_status (judged_of job.map job.params bytes)
-  Ok (record { end = judged_end judged; text = judged_text judged })
+  Ok (prints (judged_end judged) (judged_text judged))
 
 abbrev pub judge_outcome : List ℕ → List ℕ → Lookup → Result Answer Status
 judge_outcome name waveform find = do

@@ -50,7 +50,6 @@ can_refuse_file which _ = false
 -- the refusals at the reading of a job
 abbrev pub can_refuse_job : Status → Bool
 can_refuse_job (Job fault) = is_job_fault fault
-can_refuse_job Unbuilt = true
 can_refuse_job status = can_refuse_file which.Job status
 
 -- the refusals at the reading of an image

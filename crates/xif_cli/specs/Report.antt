@@ -1,37 +1,18 @@
 -- What the in-order commands print.
-use Rattle.std.specs.Prelude.{ℕ, List, [], ◌++◌, ◌-◌, ◌*◌, ◌+◌, ◌/◌, ◌==◌, Option, Some, None, false, length, take, drop, replicate, if◌then◌else◌}
-use Rattle.std.specs.Fmt.{decimal, digits}
+use Rattle.std.specs.Prelude.{ℕ, List, [], ◌++◌, ◌*◌, ◌+◌, ◌/◌, ◌==◌, Option, Some, None, length, take, drop, if◌then◌else◌}
+use Rattle.std.specs.Fmt.{decimal}
 use Rattle.std.specs.List.{enumerate_from, range_with_len, flat_map}
 use Rattle.std.specs.Int.{w32, from_le_bytes}
 use Rattle.inorder_machine.specs.declared.stop.StopCause.{StopCause}
-use Rattle.inorder_machine.specs.declared.stop.StopCause.TheVariants.{Ecall, Ebreak, Illegal, FetchOutside, LoadOutside, StoreOutside, TargetMisaligned}
 use Rattle.inorder_machine.specs.Machine.{State}
 use Rattle.xif_image.specs.Region.{Region}
+use Rattle.run_log.specs.Words.{hex_word, hex_double, cause_word}
 use lib.Chars.{codes}
-
--- so many lower-case hexadecimal digits, or more where the number has more, after 0x
-abbrev pub hex_digits : ℕ → ℕ → List ℕ
-hex_digits count n =
-    let figures = digits 16 false n in
-    codes "0x" ++ replicate (count - length figures) 48 ++ figures
-
--- a word of 32 bits, and one of 64
-abbrev pub hex_word : ℕ → List ℕ
-hex_word n = hex_digits 8 n
-
-abbrev pub hex_double : ℕ → List ℕ
-hex_double n = hex_digits 16 n
 
 -- the word for an end: a stop's cause, or the budget
 abbrev pub end_word : Option StopCause → List ℕ
 end_word None = codes "budget"
-end_word (Some Ecall) = codes "ecall"
-end_word (Some Ebreak) = codes "ebreak"
-end_word (Some Illegal) = codes "illegal"
-end_word (Some FetchOutside) = codes "fetch-outside"
-end_word (Some LoadOutside) = codes "load-outside"
-end_word (Some StoreOutside) = codes "store-outside"
-end_word (Some TargetMisaligned) = codes "target-misaligned"
+end_word (Some cause) = cause_word cause
 
 -- how the run ended, the address of the next instruction to retire, and how many retired
 abbrev pub outcome_text : Option StopCause → ℕ → ℕ → List ℕ

@@ -3,6 +3,8 @@ use Rattle.std.specs.Prelude.{ℕ, List, [], ◌++◌}
 use Rattle.std.specs.Fmt.{decimal}
 use Rattle.coproc_config.specs.declared.check.SetCause.{SetCause}
 use Rattle.coproc_config.specs.declared.check.SetCause.TheVariants.{TooManyUnits, TooManyEntries, BadMask, BadAccumulator, BadField}
+use Rattle.xif_drive.specs.declared.script.ScriptCause.{ScriptCause}
+use Rattle.xif_drive.specs.declared.script.ScriptCause.TheVariants.{EmptyList, LongList, BigDelay}
 use Rattle.xif_base.specs.declared.outside.Which.{Which}
 use Rattle.xif_base.specs.declared.outside.Which.TheVariants as which
 use Rattle.xif_image.specs.declared.image.ImageFault.{ImageFault}
@@ -51,6 +53,12 @@ cause_word BadMask = codes "mask"
 cause_word BadAccumulator = codes "accumulator"
 cause_word BadField = codes "field"
 
+-- the word for what is wrong with a script of delays
+abbrev pub script_word : ScriptCause → List ℕ
+script_word EmptyList = codes "empty"
+script_word LongList = codes "long"
+script_word BigDelay = codes "big"
+
 -- what is said of a job's fault
 abbrev pub job_words : JobFault → List ℕ
 job_words job.NotToml = codes "not-toml"
@@ -61,8 +69,9 @@ job_words job.UnknownField = codes "unknown"
 job_words (job.Set fault) =
     codes "set " ++ cause_word fault.cause ++ codes " unit=" ++ decimal fault.unit
     ++ codes " entry=" ++ decimal fault.entry
+job_words (job.Script fault) =
+    codes "script " ++ script_word fault.cause ++ codes " list=" ++ decimal fault.list
 job_words job.NoMemory = codes "no memory"
-job_words job.Unbuilt = codes "unbuilt"
 
 -- what is said of an image's fault
 abbrev pub image_words : ImageFault → List ℕ

@@ -25,7 +25,7 @@ impl End {
     }
 }
 
-/// How a command ends, and the text that it prints.
+/// How a command ends that writes no file, and the text that it prints.
 #[derive(Drop)]
 pub struct Answer {
     pub end: End,
@@ -38,5 +38,5 @@ impl Model for Answer {
 
     ghost Value = { outcome.Answer };
 
-    ghost view = { λ a. record { end = a.end; text = string_bytes a.text } };
+    ghost view = { λ a. outcome.prints a.end (string_bytes a.text) };
 }

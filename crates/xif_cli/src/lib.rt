@@ -5,8 +5,9 @@
 //! command line), `Limits` (the longest files), `Outcome` (what a command means where nothing
 //! fails), `InOrder` and `Report` (what the in-order commands run and print), `Verdict` and
 //! `Judged` (what `judge` prints, and of which samples), `Status` (numbers and fault lines) and
-//! `Ending` (how a call can end, and why). `Reading` and `Printing` are internal. `raw_law`,
-//! `step_law` and `judge_law` say what the commands print in the words of their user.
+//! `Ending` (how a call can end, and why) and `Afterwards` (what stands of files and output
+//! afterwards). `Reading`, `Printing` and `Concluding` are internal. `raw_law`, `step_law` and
+//! `judge_law` say what the commands print in the words of their user.
 #![tactic(auto)]
 
 mod answer;

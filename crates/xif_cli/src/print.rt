@@ -1,5 +1,5 @@
 //! The text that a command prints.
-ghost use Rattle.std.specs.Prelude.{◌≡◌, ◌⊎◌};
+ghost use Rattle.std.specs.Prelude.{◌≡◌, ◌⊎◌, []};
 ghost use Rattle.xif_base.specs.Faults.{CountsFaults};
 ghost use Rattle.xif_base.specs.Output.{grown, GrowsByFront};
 ghost use Rattle.xif_cli.specs.Ending.{IsFaulted};
@@ -15,14 +15,15 @@ use xif_base::{Out, Which, WriteFail, put_all};
 pub(crate) fn print_answer<O: Out>(answer: &Answer, out: &mut O) -> Status
     ensures end { (result ≡ end_status answer.now.end) ⊎ IsPrintFail result }
     ensures put { (end : End) → result ≡ end_status end →
-        O.put_bytes out.new ≡ grown (O.put_bytes out.old) answer.now.text }
+        O.put_bytes out.new ≡ grown (O.put_bytes out.old) answer.now.printed }
     ensures front { IsPrintFail result →
-        GrowsByFront (O.put_bytes out.old) (O.put_bytes out.new) answer.now.text }
+        GrowsByFront (O.put_bytes out.old) (O.put_bytes out.new) answer.now.printed }
     ensures write_fault { result ≡ Status.WriteFault Which.Output →
         IsFaulted (O.faultless out.old) (O.faults out.old) (O.faults out.new) }
     ensures uncounted { (O.faults out.new ≡ O.faults out.old)
         ⊎ (result ≡ Status.WriteFault Which.Output) }
     ensures counts { CountsFaults O.faults O.faultless out.old out.new }
+    ensures no_files { answer.now.targets ≡ [] }
 {
     match put_all(out, answer.text.as_bytes()) {
         Ok(()) => answer.end.status(),

@@ -1,9 +1,10 @@
 //! The whole program, but for the words, the files and the outputs of the system.
-ghost use Rattle.std.specs.Prelude.{◌≡◌, ◌≢◌, ◌⊎◌, ◌↔◌, ℕ, List, IsTrue, IfErr, IfOk, false};
+ghost use Rattle.std.specs.Prelude.{◌≡◌, ◌≢◌, ◌⊎◌, ◌↔◌, ℕ, List, IsTrue, IfErr, IfOk, true, false};
 ghost use Rattle.xif_base.specs.Faults.{OnlyReads, CountsFaults};
 ghost use Rattle.xif_base.specs.Files.{Files};
-ghost use Rattle.xif_base.specs.Output.{grown, GrowsByFront};
-ghost use Rattle.xif_cli.specs.Ending.{IsNoCommand, Means, is_built, can_end, IsFaulted, IsRefusalOfContent, IsRefusal, texts_of};
+ghost use Rattle.xif_cli.specs.Afterwards.{IsDone, IsBrokenOff};
+ghost use Rattle.xif_cli.specs.Concluding.{Concludes};
+ghost use Rattle.xif_cli.specs.Ending.{IsNoCommand, Means, is_built, has_targets, can_end, IsFaulted, IsFaultedAt, IsRefusalOfContent, IsRefusal, texts_of};
 ghost use Rattle.xif_cli.specs.Outcome.{Answer, end_status, found, without, command_outcome};
 ghost use Rattle.xif_cli.specs.declared.answer.End.{End};
 ghost use Rattle.xif_cli.specs.Reading.{Ends, seen, can_refuse};
@@ -32,12 +33,12 @@ pub fn xif<S: Shelf, O: Out>(alloc: Global, words: &[String], shelf: &mut S, out
         IsCommand (texts_of words.now) form → is_built form ≡ false →
         (result ≡ Status.Unbuilt) × (shelf.new ≡ shelf.old) }
 
-    // Over files that the shelf reports, a command that isn't refused prints what it means, and it
-    // refuses what a file holds only where it means that refusal.
+    // Over files that the shelf reports, a command that isn't refused writes the files and prints
+    // the text that it means, and it refuses what a file holds only where it means that refusal.
     ensures output_is_defined { (end : End) → result ≡ end_status end →
-        (m : Files) → S.files shelf.old ≡ Some m → (text : List ℕ) ×
-        (Means words.now (found m) (Ok (record { end = end; text = text }))
-        × (O.put_bytes out.new ≡ grown (O.put_bytes out.old) text)) }
+        (m : Files) → S.files shelf.old ≡ Some m →
+        IsDone (λ answer. Means words.now (found m) (Ok answer)) end
+        m (S.files shelf.new) (O.put_bytes out.old) (O.put_bytes out.new) }
     ensures refusal_is_defined { IsRefusalOfContent result →
         (m : Files) → S.files shelf.old ≡ Some m → Means words.now (found m) (Err result) }
 
@@ -50,45 +51,77 @@ pub fn xif<S: Shelf, O: Out>(alloc: Global, words: &[String], shelf: &mut S, out
     ensures earlier_files_are_lawful { (w : Which) → result ≡ Status.ReadFault w →
         (m : Files) → S.files shelf.old ≡ Some m → Means words.now (without w m) (Err result) }
 
-    // The output can't be written where a fault of it was counted. A prefix of the text was put.
+    // A target can't be written where a fault was counted at it. Those before it are whole, and in
+    // it stands a prefix of its bytes.
     ensures write_fault_has_cause { (w : Which) → result ≡ Status.WriteFault w →
-        IsFaulted (O.faultless out.old) (O.faults out.old) (O.faults out.new) }
+        IsFaultedAt
+        (IsFaulted (S.faultless shelf.old) (S.write_faults shelf.old) (S.write_faults shelf.new))
+        (IsFaulted (O.faultless out.old) (O.faults out.old) (O.faults out.new)) w }
     ensures prefix_is_written { (w : Which) → result ≡ Status.WriteFault w →
         (m : Files) → S.files shelf.old ≡ Some m →
-        (answer : Answer) × (Means words.now (found m) (Ok answer)
-        × GrowsByFront (O.put_bytes out.old) (O.put_bytes out.new) answer.text) }
+        IsBrokenOff (λ answer. Means words.now (found m) (Ok answer)) w
+        m (S.files shelf.new) (O.put_bytes out.old) (O.put_bytes out.new) }
 
     // Unless it is out of memory or a fault was counted, a command ends as it is defined.
     ensures completes_as_defined { (m : Files) → S.files shelf.old ≡ Some m →
         (answer : Answer) → Means words.now (found m) (Ok answer) →
         (result ≡ end_status answer.end) ⊎ ((result ≡ Status.NoMemory)
         ⊎ (IsFaulted (S.faultless shelf.old) (S.fetch_faults shelf.old) (S.fetch_faults shelf.new)
-        ⊎ IsFaulted (O.faultless out.old) (O.faults out.old) (O.faults out.new))) }
+        ⊎ (IsFaulted (S.faultless shelf.old) (S.write_faults shelf.old) (S.write_faults shelf.new)
+        ⊎ IsFaulted (O.faultless out.old) (O.faults out.old) (O.faults out.new)))) }
     ensures refuses_as_defined { (m : Files) → S.files shelf.old ≡ Some m →
         (status : Status) → Means words.now (found m) (Err status) →
         (result ≡ status) ⊎ ((result ≡ Status.NoMemory)
         ⊎ IsFaulted (S.faultless shelf.old) (S.fetch_faults shelf.old) (S.fetch_faults shelf.new)) }
 
-    // What stands afterwards: the files as they were; of the text all, a prefix or nothing.
+    // What stands afterwards. Out of memory, all is as it was, or the writing stopped in a target.
+    // A refusal leaves all as it was, and a form without files to write only reads.
     ensures after_no_memory { result ≡ Status.NoMemory →
         (m : Files) → S.files shelf.old ≡ Some m →
-        (O.put_bytes out.new ≡ O.put_bytes out.old)
-        ⊎ ((answer : Answer) × (Means words.now (found m) (Ok answer)
-        × GrowsByFront (O.put_bytes out.old) (O.put_bytes out.new) answer.text)) }
-    ensures refusal_writes_nothing { IsRefusal result → out.new ≡ out.old }
-    ensures shelf_is_only_read { OnlyReads S.files S.fetch_faults S.write_faults S.faultless
-        shelf.old shelf.new }
+        ((S.files shelf.new ≡ Some m) × (O.put_bytes out.new ≡ O.put_bytes out.old))
+        ⊎ ((w : Which) × IsBrokenOff (λ answer. Means words.now (found m) (Ok answer)) w
+        m (S.files shelf.new) (O.put_bytes out.old) (O.put_bytes out.new)) }
+    ensures refusal_prints_nothing { IsRefusal result → out.new ≡ out.old }
+    ensures refusal_only_reads { IsRefusal result →
+        OnlyReads S.files S.fetch_faults S.write_faults S.faultless shelf.old shelf.new }
+    ensures others_only_read { (form : Form) →
+        IsCommand (texts_of words.now) form → has_targets form ≡ false →
+        OnlyReads S.files S.fetch_faults S.write_faults S.faultless shelf.old shelf.new }
+    ensures unreported_stays { S.files shelf.old ≡ None → S.files shelf.new ≡ None }
 
     // A fault that is counted is reported.
     ensures fetch_fault_is_reported { (S.fetch_faults shelf.new ≡ S.fetch_faults shelf.old)
         ⊎ ((w : Which) × (result ≡ Status.ReadFault w)) }
+    ensures write_fault_is_reported { (S.write_faults shelf.new ≡ S.write_faults shelf.old)
+        ⊎ ((w : Which) × (result ≡ Status.WriteFault w)) }
     ensures put_fault_is_reported { (O.faults out.new ≡ O.faults out.old)
         ⊎ (result ≡ Status.WriteFault Which.Output) }
+    ensures fetch_faults_are_counted { CountsFaults S.fetch_faults S.faultless shelf.old shelf.new }
+    ensures write_faults_are_counted { CountsFaults S.write_faults S.faultless shelf.old shelf.new }
     ensures put_faults_are_counted { CountsFaults O.faults O.faultless out.old out.new }
 {
     let Some(command) = parse_command(words) else {
         return Status::Usage;
     };
+    perform(alloc, command, shelf, out)
+}
+
+// Does what a command asks for.
+fn perform<S: Shelf, O: Out>(
+    alloc: Global,
+    command: Command<'_>,
+    shelf: &mut S,
+    out: &mut O,
+) -> Status
+    ensures concludes { Concludes S.files S.fetch_faults S.write_faults S.faultless
+        O.put_bytes O.faults O.faultless shelf.old shelf.new out.old out.new
+        (command_outcome (form_of command.entry)) result }
+    ensures can_end { IsTrue (can_end (form_of command.entry) result) }
+    ensures unbuilt { is_built (form_of command.entry) ≡ false →
+        (result ≡ Status.Unbuilt) × (shelf.new ≡ shelf.old) }
+    ensures only_reads { has_targets (form_of command.entry) ≡ false →
+        OnlyReads S.files S.fetch_faults S.write_faults S.faultless shelf.old shelf.new }
+{
     match answer_of(alloc, command, shelf) {
         Ok(answer) => print_answer(&answer, out),
         Err(status) => status,

@@ -1,13 +1,13 @@
 //! What the in-order commands print.
-ghost use Rattle.std.specs.Prelude.{◌≡◌, ◌<◌, ◌*◌, ◌+◌, ◌^◌, OnOk, IfOk, Some, slice_index};
+ghost use Rattle.std.specs.Prelude.{◌≡◌, ◌<◌, ◌*◌, ◌+◌, ◌^◌, OnOk, IfOk, slice_index};
 ghost use Rattle.std.specs.String.{string_bytes};
-ghost use Rattle.xif_cli.specs.Printing.{Appends};
-ghost use Rattle.xif_cli.specs.Report.{hex_word, hex_double, end_word, outcome_text, register_line, register_lines, accumulator_line, unit_lines, accumulator_lines, memory_word, memory_line, memory_lines, report_of};
+ghost use Rattle.run_log.specs.Growth.{Appends};
+ghost use Rattle.xif_cli.specs.Report.{end_word, outcome_text, register_line, register_lines, accumulator_line, unit_lines, accumulator_lines, memory_word, memory_line, memory_lines, report_of};
 
 use coproc_config::UnitState;
 use inorder_machine::{Machine, StopCause};
+use run_log::{HexDouble, HexWord, cause_word};
 use std::alloc::{AllocError, Global};
-use std::fmt;
 use xif_image::Memory;
 
 /// What is printed of a run that ended by `stop`, or else by its budget, after `retired`
@@ -51,13 +51,7 @@ fn end_word(stop: Option<StopCause>) -> &'static str
 {
     match stop {
         None => "budget",
-        Some(StopCause::Ecall) => "ecall",
-        Some(StopCause::Ebreak) => "ebreak",
-        Some(StopCause::Illegal) => "illegal",
-        Some(StopCause::FetchOutside) => "fetch-outside",
-        Some(StopCause::LoadOutside) => "load-outside",
-        Some(StopCause::StoreOutside) => "store-outside",
-        Some(StopCause::TargetMisaligned) => "target-misaligned",
+        Some(cause) => cause_word(cause),
     }
 }
 
@@ -163,28 +157,4 @@ fn byte_at(bytes: &[u8], at: usize) -> u8
     ensures { result ≡ slice_index bytes.now at }
 {
     bytes.get(at).copied().unwrap_or(0)
-}
-
-// A double word as it is printed: sixteen hexadecimal digits after 0x.
-#[derive(Clone, Copy)]
-struct HexDouble(u64);
-
-impl fmt::Display for HexDouble {
-    ghost output = { λ double. Some (hex_double double.0) };
-
-    fn fmt<W: fmt::Write>(&self, f: &mut fmt::Formatter<W>) -> fmt::Result {
-        write!(f, "0x{:016x}", self.0)
-    }
-}
-
-// A word as it is printed: eight hexadecimal digits after 0x.
-#[derive(Clone, Copy)]
-struct HexWord(u32);
-
-impl fmt::Display for HexWord {
-    ghost output = { λ word. Some (hex_word word.0) };
-
-    fn fmt<W: fmt::Write>(&self, f: &mut fmt::Formatter<W>) -> fmt::Result {
-        write!(f, "0x{:08x}", self.0)
-    }
 }

@@ -1,12 +1,13 @@
 //! What a command ended with.
 ghost use Rattle.std.specs.Prelude.{◌≡◌, ◌≢◌, ◌↔◌, IsTrue};
-ghost use Rattle.xif_cli.specs.Status.{status_number, which_word, cause_word, vcd_word};
+ghost use Rattle.xif_cli.specs.Status.{status_number, which_word, cause_word, script_word, vcd_word};
 
 use coproc_config::SetCause;
 use std::fmt;
 use vcd_text::{VcdCause, VcdFault};
 use waveform_judge::JudgeFail;
 use xif_base::{NoMemory, Which};
+use xif_drive::ScriptCause;
 use xif_image::ImageFault;
 use xif_job::JobFault;
 use xif_sampler::MapFault;
@@ -89,7 +90,6 @@ impl From<JobFault> for Status {
     fn from(fault: JobFault) -> Self {
         match fault {
             JobFault::NoMemory => Status::NoMemory,
-            JobFault::Unbuilt => Status::Unbuilt,
             fault => Status::Job(fault),
         }
     }
@@ -183,8 +183,11 @@ impl fmt::Display for JobWords {
                 let cause = cause_word(fault.cause);
                 write!(f, "set {cause} unit={} entry={}", fault.unit, fault.entry)
             }
+            JobFault::Script(fault) => {
+                let cause = script_word(fault.cause);
+                write!(f, "script {cause} list={}", fault.list)
+            }
             JobFault::NoMemory => f.write_str("no memory"),
-            JobFault::Unbuilt => f.write_str("unbuilt"),
         }
     }
 }
@@ -199,6 +202,17 @@ fn cause_word(cause: SetCause) -> &'static str
         SetCause::BadMask => "mask",
         SetCause::BadAccumulator => "accumulator",
         SetCause::BadField => "field",
+    }
+}
+
+// The word for what is wrong with a script of delays.
+fn script_word(cause: ScriptCause) -> &'static str
+    ensures { result.now ≡ script_word cause }
+{
+    match cause {
+        ScriptCause::EmptyList => "empty",
+        ScriptCause::LongList => "long",
+        ScriptCause::BigDelay => "big",
     }
 }
 

@@ -28,6 +28,7 @@ fn fields_that_are_absent_have_their_defaults(rt: HostRuntime) -> Result<(), Fai
     assert_eq!(rt; (job.window, job.budget), (8, 10_000));
     let names = (job.trace.as_str(), job.log.as_str());
     assert_eq!(rt; names, ("trace.vcd", "trace.log"));
+    assert_eq!(rt; job.script.largest(), 0);
     assert_eq!(rt; job.image.file.as_str(), "");
     assert!(rt; matches!(&job.predictor, Kind::Never));
     assert_eq!(rt; job.set.len(), 0);
@@ -62,6 +63,12 @@ budget = 200000
 predictor = \"listed\"
 bits = 12
 targets = [8, 4294967295]
+[script]
+issue = [1, 2]
+register = [3]
+operand = [4]
+result = [5]
+take = [6, 200]
 [[unit]]
 [[unit]]
 accumulators = 2
@@ -72,6 +79,9 @@ op = \"acc_add\"
 acc = 1
 low = 2
 len = 3
+[trace]
+vcd = \"p.vcd\"
+log = \"p.log\"
 [map]
 clk = \"top.clk\"
 issue_id = 31
@@ -100,6 +110,13 @@ fn fields_are_what_the_file_says(rt: HostRuntime) -> Result<(), Fail> {
     assert_eq!(rt; addresses, (4_294_966_280, 4_294_966_276));
     assert_eq!(rt; job.image.kind, ImageKind::Raw);
     assert_eq!(rt; (job.window, job.budget), (32, 200_000));
+    let names = (job.trace.as_str(), job.log.as_str());
+    assert_eq!(rt; names, ("p.vcd", "p.log"));
+    let delays = (job.script.issue(3), job.script.register(0));
+    assert_eq!(rt; delays, (2, 3));
+    let delays = (job.script.operand(0), job.script.result(0));
+    assert_eq!(rt; delays, (4, 5));
+    assert_eq!(rt; (job.script.take(0), job.script.largest()), (6, 200));
     check_predictor(&rt, &job.predictor);
     check_units(&rt, &job);
     check_map(&rt, &job);

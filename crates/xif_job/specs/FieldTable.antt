@@ -2,7 +2,7 @@
 -- it is absent, and where its value stands. The order of the lines is the order in which faults are
 -- reported. Where a line depends on earlier fields, it follows them. The signals have one line for
 -- all, over their own table.
-use Rattle.std.specs.Prelude.{◌+◌, ◌-◌, ◌^◌, ◌==◌, ◌||◌, ℕ, Bool, not, if◌then◌else◌, List, [], ◌∷◌, map, Option, Some, None, is_some, Result, Ok, Err, nat_le, min, codes}
+use Rattle.std.specs.Prelude.{◌+◌, ◌-◌, ◌^◌, ◌==◌, ℕ, Bool, not, if◌then◌else◌, List, [], ◌∷◌, map, Option, Some, None, Result, Ok, Err, nat_le, min, codes}
 use Rattle.std.specs.Option.{ok_or}
 use Rattle.std.specs.Str.{bytes_eq}
 use Rattle.toml.specs.Data.{Data, string, integer, Members, get_member}
@@ -14,14 +14,17 @@ use Rattle.coproc_config.specs.Check.{checks}
 use Rattle.coproc_config.specs.Set.{UnitTable}
 use Rattle.coproc_config.specs.declared.check.SetFault.{SetFault}
 use Rattle.coproc_config.specs.declared.operation.Entry.{Entry}
+use Rattle.xif_drive.specs.Scripts.{Lists, script_fault, checked_by}
+use Rattle.xif_drive.specs.declared.script.ScriptFault.{ScriptFault}
 use Rattle.xif_signals.specs.Signal.{signals, signal_number, name_of, width_of}
 use Rattle.xif_signals.specs.declared.signal.Signal.{Signal}
 use Rattle.xif_signals.specs.declared.signal.Signal.TheVariants.{Clk}
 use Rattle.xif_sampler.specs.declared.place.Place.{Place}
 use Rattle.xif_sampler.specs.declared.place.Place.TheVariants as places
+use Rattle.xif_job.specs.declared.field.Field.{Field}
 use Rattle.xif_job.specs.declared.field.Field.TheVariants as fields
 use Rattle.xif_job.specs.declared.field.JobFault.{JobFault}
-use Rattle.xif_job.specs.declared.field.JobFault.TheVariants.{NotToml, WrongKind, OutOfRange, UnknownField, Unbuilt}
+use Rattle.xif_job.specs.declared.field.JobFault.TheVariants.{NotToml, WrongKind, OutOfRange, UnknownField}
 use Rattle.xif_job.specs.declared.field.JobFault.TheVariants as faults
 use Rattle.xif_job.specs.declared.readers.Absent.TheVariants.{Default, Missing}
 use Rattle.xif_job.specs.declared.params.Ports.{Ports}
@@ -33,11 +36,12 @@ use Rattle.xif_job.specs.declared.predictor.Kind.{Kind}
 use Rattle.xif_job.specs.declared.predictor.Kind.TheVariants as kinds
 use Rattle.xif_job.specs.declared.predictor.KindName.{KindName}
 use Rattle.xif_job.specs.declared.predictor.KindName.TheVariants as names
+use Rattle.xif_job.specs.declared.trace.Trace.{Trace}
 use Rattle.xif_job.specs.declared.job.Job.{Job}
 use Rattle.xif_job.specs.Document.{document_of}
 use Rattle.xif_job.specs.Field.{param_field}
 use Rattle.xif_job.specs.Outcome.{◌>>=◌, unless}
-use Rattle.xif_job.specs.Readers.{◌at◌, ◌to◌, demand, integer_in, number_in, word_in, optional_in, port_width_in, flag_in, text_in, any_text_in, choice_in, numbers_in, each, array_in, are_known, table_in}
+use Rattle.xif_job.specs.Readers.{◌at◌, ◌to◌, demand, integer_in, number_in, word_in, optional_in, port_width_in, flag_in, text_in, any_text_in, choice_in, numbers_in, list_in, each, array_in, are_known, table_in}
 use Rattle.xif_job.specs.Words.{image_kinds, predictors, operations}
 
 abbrev pub params_names : List (List ℕ)
@@ -151,6 +155,31 @@ core_of id_width top = do
   predictor ← predictor_of t
   Ok (record { window = window; budget = budget; predictor = predictor })
 
+-- a list of delays, in cycles. How many there are, and how great each is, is for the check of the
+-- script.
+abbrev pub delays_in : Field → Option Data → Result (List ℕ) JobFault
+delays_in field found = list_in field (0 to 65535) (Default (0 ∷ [])) found
+
+abbrev pub script_names : List (List ℕ)
+script_names =
+    codes "issue" ∷ codes "register" ∷ codes "operand" ∷ codes "result" ∷ codes "take" ∷ []
+
+unfoldable pub script_of : Members → Result Lists JobFault
+script_of top = do
+  t ← table_in fields.ScriptIssue script_names (top at "script")
+  issue ← delays_in fields.ScriptIssue (t at "issue")
+  register ← delays_in fields.ScriptRegister (t at "register")
+  operand ← delays_in fields.ScriptOperand (t at "operand")
+  result ← delays_in fields.ScriptResult (t at "result")
+  take ← delays_in fields.ScriptTake (t at "take")
+  Ok (record {
+    issue = issue;
+    register = register;
+    operand = operand;
+    result = result;
+    take = take;
+  })
+
 abbrev pub entry_names : List (List ℕ)
 entry_names =
     codes "mask" ∷ codes "match" ∷ codes "op" ∷ codes "acc" ∷ codes "low" ∷ codes "len" ∷ []
@@ -223,23 +252,42 @@ abbrev pub lawful : Result Unit SetFault → Result Unit JobFault
 lawful (Ok _) = Ok tt
 lawful (Err e) = Err (faults.Set e)
 
--- the image's file is neither the waveform's nor the log's
-abbrev pub differ : List ℕ → Result Unit JobFault
-differ file = do
-  _ ← demand fields.TraceVcd (not (bytes_eq file (codes "trace.vcd")))
-  demand fields.TraceLog (not (bytes_eq file (codes "trace.log")))
+-- the first fault of the delays as a script
+abbrev pub drivable : Result Unit ScriptFault → Result Unit JobFault
+drivable (Ok _) = Ok tt
+drivable (Err e) = Err (faults.Script e)
 
--- the tables in their order, and then the checks of the set
+abbrev pub trace_names : List (List ℕ)
+trace_names = codes "vcd" ∷ codes "log" ∷ []
+
+-- a name is another one than this
+abbrev pub differs : Field → List ℕ → List ℕ → Result Unit JobFault
+differs field name other = demand field (not (bytes_eq name other))
+
+-- the files of the waveform and the log, which differ from the image's file and from one another
+unfoldable pub trace_of : List ℕ → Members → Result Trace JobFault
+trace_of file top = do
+  t ← table_in fields.TraceVcd trace_names (top at "trace")
+  vcd ← text_in fields.TraceVcd (Default (codes "trace.vcd")) (t at "vcd")
+  _ ← differs fields.TraceVcd vcd file
+  log ← text_in fields.TraceLog (Default (codes "trace.log")) (t at "log")
+  _ ← differs fields.TraceLog log file
+  _ ← differs fields.TraceLog log vcd
+  Ok (record { vcd = vcd; log = log })
+
+-- the tables in their order, and then the checks of the set and of the script
 unfoldable pub job_of : Bool → Members → Result Job JobFault
 job_of needs_image top = do
   params ← params_of top
   memory ← memory_of top
   image ← image_of needs_image memory.base top
   core ← core_of params.id_width top
+  script ← script_of top
   set ← units_of top
-  _ ← differ image.source.file
+  trace ← trace_of image.source.file top
   map ← map_of params top
   _ ← lawful (first_failing (checks set))
+  _ ← drivable (checked_by (script_fault script))
   Ok (record {
     params = params;
     image = image.source;
@@ -249,24 +297,28 @@ job_of needs_image top = do
     window = core.window;
     budget = core.budget;
     predictor = core.predictor;
+    script = script;
     set = set;
-    trace = codes "trace.vcd";
-    log = codes "trace.log";
+    trace = trace.vcd;
+    log = trace.log;
     map = map;
   })
 
--- a table at the top level is one that is not read yet
-abbrev pub is_unbuilt : Members → Bool
-is_unbuilt top = is_some (top at "script") || is_some (top at "trace")
-
 abbrev pub table_names : List (List ℕ)
 table_names =
-    codes "params" ∷ codes "memory" ∷ codes "image" ∷ codes "core" ∷ codes "unit" ∷ codes "map" ∷ []
+    codes "params"
+    ∷ codes "memory"
+    ∷ codes "image"
+    ∷ codes "core"
+    ∷ codes "script"
+    ∷ codes "unit"
+    ∷ codes "trace"
+    ∷ codes "map"
+    ∷ []
 
 -- the tables at the top level
 abbrev pub all_of : Bool → Members → Result Job JobFault
 all_of needs_image top = do
-  _ ← unless (not (is_unbuilt top)) Unbuilt
   _ ← unless (are_known table_names top) UnknownField
   job_of needs_image top
 

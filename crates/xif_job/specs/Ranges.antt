@@ -1,7 +1,8 @@
 -- The ranges that the fields of a job keep.
-use Rattle.std.specs.Prelude.{◌≡◌, ◌≤◌, ◌+◌, ◌%◌, ◌^◌, ℕ}
+use Rattle.std.specs.Prelude.{◌≡◌, ◌≢◌, ◌≤◌, ◌+◌, ◌%◌, ◌^◌, ℕ}
 use Rattle.coproc_config.specs.Check.{IsLawful}
 use Rattle.xif_base.specs.Params.{IsInRange}
+use Rattle.xif_drive.specs.Scripts.{IsLawful as IsLawfulScript}
 use Rattle.xif_job.specs.declared.job.Job.{Job}
 
 -- a memory's first address and its size, in bytes
@@ -31,3 +32,7 @@ pub record IsLawfulJob (job : Job) : Type 0 where
   pub entry : job.entry % 4 ≡ 0
   pub window : IsLawfulWindow job.params.id_width job.window
   pub budget : IsLawfulBudget job.budget
+  pub script : IsLawfulScript job.script
+  pub trace_differs : job.trace ≢ job.image.file
+  pub log_differs : job.log ≢ job.image.file
+  pub texts_differ : job.log ≢ job.trace

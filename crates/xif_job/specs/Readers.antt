@@ -75,7 +75,7 @@ port_width_in field absent found =
 abbrev pub flag_in : Field → Absent ℕ → Option Data → Result Bool JobFault
 flag_in field absent found = number_in field (0 to 1) absent found >>= λ n. Ok (n == 1)
 
--- a text that isn't empty
+-- a text that isn't empty, or what the field is where it is absent
 abbrev pub text_in : Field → Absent (List ℕ) → Option Data → Result (List ℕ) JobFault
 text_in field absent None = where_absent field absent
 text_in field absent (Some d) =
@@ -124,6 +124,14 @@ abbrev pub numbers_in
 numbers_in field counts range absent None = where_absent field absent
 numbers_in field counts range absent (Some d) =
     of_kind field (as_array d) >>= integers_in field counts range
+
+-- an array of any number of integers, each in a range, whose kinds are all tested first
+abbrev pub list_in : Field → Range → Absent (List ℕ) → Option Data → Result (List ℕ) JobFault
+list_in field range absent None = where_absent field absent
+list_in field range absent (Some d) =
+    of_kind field (as_array d) >>= λ ds.
+    unless (are_integers ds) (WrongKind field) >>= λ _.
+    each (integer_in field range) ds
 
 -- the items of an array: none where it is absent
 abbrev pub array_in : Field → Option Data → Result Items JobFault

@@ -6,6 +6,7 @@ ghost use Rattle.xif_job.specs.Field.{dotted, param_field};
 use coproc_config::SetFault;
 use std::alloc::{AllocError, AllocFailed};
 use xif_base::{NoMemory, ParamFault};
+use xif_drive::ScriptFault;
 use xif_signals::Signal;
 
 /// A field of a job file, or an array of tables. `name` says how the file has it.
@@ -32,6 +33,11 @@ pub enum Field {
     CorePredictor,
     CoreBits,
     CoreTargets,
+    ScriptIssue,
+    ScriptRegister,
+    ScriptOperand,
+    ScriptResult,
+    ScriptTake,
     Unit,
     UnitAccumulators,
     UnitEntry,
@@ -65,10 +71,10 @@ pub enum JobFault {
     UnknownField,
     /// The units, all of whose fields are in their ranges, are no lawful set.
     Set(SetFault),
+    /// The delays, all of which are in their range, are no lawful script.
+    Script(ScriptFault),
     /// The program is out of memory.
     NoMemory,
-    /// The job has a table that is not read yet: `script` or `trace`.
-    Unbuilt,
 }
 
 impl From<AllocError> for JobFault {
@@ -132,6 +138,11 @@ impl Field {
             Field::CorePredictor => "core.predictor",
             Field::CoreBits => "core.bits",
             Field::CoreTargets => "core.targets",
+            Field::ScriptIssue => "script.issue",
+            Field::ScriptRegister => "script.register",
+            Field::ScriptOperand => "script.operand",
+            Field::ScriptResult => "script.result",
+            Field::ScriptTake => "script.take",
             Field::Unit => "unit",
             Field::UnitAccumulators => "unit.accumulators",
             Field::UnitEntry => "unit.entry",

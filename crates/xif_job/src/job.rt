@@ -1,11 +1,11 @@
 //! A job: what one run of the simulator is to do.
-ghost use Rattle.std.specs.Prelude.{◌≡◌, IfOk};
-ghost use Rattle.std.specs.Str.{bytes_eq};
+ghost use Rattle.std.specs.Prelude.{IfOk};
 ghost use Rattle.toml.specs.View.{table_view};
-ghost use Rattle.xif_job.specs.FieldTable.{job_of, differ, is_unbuilt, all_of, read_of};
+ghost use Rattle.xif_job.specs.FieldTable.{job_of, all_of, read_of};
 ghost use Rattle.xif_job.specs.Outcome.{ReadsAs};
 ghost use Rattle.xif_job.specs.Ranges.{IsLawfulJob};
 
+use crate::JobFault;
 use crate::core_table::read_core;
 use crate::document::document;
 use crate::image::{ImageSource, read_image};
@@ -13,13 +13,15 @@ use crate::map::read_map;
 use crate::memory::read_memory;
 use crate::params::read_params;
 use crate::predictor::Kind;
-use crate::readers::{demand, find, has_only};
+use crate::readers::has_only;
+use crate::script::{check_script, read_script};
+use crate::trace::read_trace;
 use crate::units::{check_set, read_units};
-use crate::{Field, JobFault};
 use coproc_config::Set;
 use std::alloc::Global;
 use toml::Table;
 use xif_base::{Name, Params};
+use xif_drive::Script;
 use xif_sampler::SignalMap;
 
 /// What a job file says. Behind each field stands what the file calls it, and its default.
@@ -49,12 +51,17 @@ pub struct Job {
     /// `core.predictor`, with `core.bits` (8 by default) and `core.targets` (the address 0 by
     /// default). By default no branch is predicted to be taken.
     pub predictor: Kind,
+    /// The table `script`: the delays of the transactions in cycles, a lawful script. By default
+    /// each is 0.
+    pub script: Script,
     /// The arrays `unit` and `unit.entry`: the coprocessor's units, a lawful set. By default there
     /// are none.
     pub set: Set,
-    /// The name of the file of the waveform that a run writes, `trace.vcd`.
+    /// `trace.vcd`, the name of the file of the waveform that a run writes, another one than the
+    /// image's. By default it is `trace.vcd`.
     pub trace: Name,
-    /// The name of the file of the log that a run writes, `trace.log`.
+    /// `trace.log`, the name of the file of the log that a run writes, another one than the image's
+    /// and the waveform's. By default it is `trace.log`.
     pub log: Name,
     /// The table `map`: where the signals are found in a waveform. By default each is where the
     /// waveforms of this project have it.
@@ -62,7 +69,9 @@ pub struct Job {
 }
 
 /// The names at the top level.
-const NAMES: [&str; 6] = ["params", "memory", "image", "core", "unit", "map"];
+const NAMES: [&str; 8] = [
+    "params", "memory", "image", "core", "script", "unit", "trace", "map",
+];
 
 impl Job {
     /// Reads the bytes of a job file: what they say, or the first fault in the order of the fields.
@@ -81,20 +90,10 @@ fn read_all(alloc: Global, top: &Table, needs_image: bool) -> Result<Job, JobFau
     ensures exact { ReadsAs (λ job. job) result (all_of needs_image (table_view top.now)) }
     ensures lawful { IfOk result IsLawfulJob }
 {
-    if has_unbuilt(top) {
-        return Err(JobFault::Unbuilt);
-    }
     if !has_only(top, &NAMES) {
         return Err(JobFault::UnknownField);
     }
     read_job(alloc, top, needs_image)
-}
-
-/// A table at the top level is one that is not read yet.
-fn has_unbuilt(top: &Table) -> bool
-    ensures { result ≡ is_unbuilt (table_view top.now) }
-{
-    find(Some(top), "script").is_some() || find(Some(top), "trace").is_some()
 }
 
 #[tactic(auto, unfolding(crate::specs::FieldTable::job_of))]
@@ -106,12 +105,12 @@ fn read_job(alloc: Global, top: &Table, needs_image: bool) -> Result<Job, JobFau
     let memory = read_memory(top)?;
     let image = read_image(alloc, top, needs_image, memory.base)?;
     let core = read_core(alloc, top, params.id_width)?;
+    let script = read_script(alloc, top)?;
     let set = read_units(alloc, top)?;
-    check_names(&image.source.file)?;
+    let trace = read_trace(alloc, top, &image.source.file)?;
     let map = read_map(alloc, top, &params)?;
     check_set(&set)?;
-    let trace = Name::of(alloc, "trace.vcd")?;
-    let log = Name::of(alloc, "trace.log")?;
+    check_script(&script)?;
     Ok(Job {
         params,
         image: image.source,
@@ -121,23 +120,10 @@ fn read_job(alloc: Global, top: &Table, needs_image: bool) -> Result<Job, JobFau
         window: core.window,
         budget: core.budget,
         predictor: core.predictor,
+        script,
         set,
-        trace,
-        log,
+        trace: trace.vcd,
+        log: trace.log,
         map,
     })
-}
-
-/// The image's file is neither the waveform's nor the log's.
-fn check_names(file: &Name) -> Result<(), JobFault>
-    ensures { result ≡ differ file.now }
-{
-    demand(Field::TraceVcd, !has_text(file, "trace.vcd"))?;
-    demand(Field::TraceLog, !has_text(file, "trace.log"))
-}
-
-fn has_text(name: &Name, text: &str) -> bool
-    ensures { result ≡ bytes_eq name.now text.now }
-{
-    name.as_str() == text
 }

@@ -3,8 +3,7 @@
 //! The layers above may use `Job::read`, which returns the job that the bytes of a file say, or the
 //! first fault in the order of the fields, the types that a `Job` is made of, and `Field::name` for
 //! the name of the field that a fault is reported at. What holds of every job that is read is
-//! `IsLawfulJob` of `specs/Ranges`. The tables `script` and `trace` are not read yet: a job that
-//! has one is `Unbuilt`.
+//! `IsLawfulJob` of `specs/Ranges`.
 //!
 //! The definitions stand in `specs/`: `FieldTable` has a line for each field, with its range and
 //! its default, in the order in which faults are reported, and what a job file says as a whole
@@ -25,6 +24,8 @@ mod memory;
 mod params;
 mod predictor;
 mod readers;
+mod script;
+mod trace;
 mod units;
 
 pub use addresses::Addresses;

@@ -1,18 +1,19 @@
 //! Readers of fields, by kind: what stands at a name of a table, or the fault of the field.
-ghost use Rattle.std.specs.Prelude.{◌≡◌, ◌≤◌, ◌<◌, ◌%◌, ◌^◌, [], ◌∷◌, IfOk, is_some, string_bytes};
+ghost use Rattle.std.specs.Prelude.{◌≡◌, ◌≤◌, ◌<◌, ◌%◌, ◌^◌, [], ◌∷◌, IfOk, Some, is_some, string_bytes};
 ghost use Rattle.std.specs.List.{list_all, list_any};
 ghost use Rattle.std.specs.Str.{bytes_eq};
 ghost use Rattle.std.specs.BTreeMap.{keys};
 ghost use Rattle.toml.specs.View.{table_view, items_view, view};
 ghost use Rattle.toml.specs.Data.{get_member, as_integer};
 ghost use Rattle.xif_job.specs.Outcome.{ReadsAs, where_absent};
-ghost use Rattle.xif_job.specs.Readers.{◌to◌, IsIn, HasDefaultIn, is_in, demand as demanded, integer_in, number_in, word_in, optional_in, port_width_in, flag_in, text_in, any_text_in, choice_in, meaning, numbers_in, integers_in, are_integers as all_integers, count, each, array_in, are_known, table_in};
+ghost use Rattle.xif_job.specs.Readers.{◌to◌, IsIn, HasDefaultIn, is_in, demand as demanded, integer_in, number_in, word_in, optional_in, port_width_in, flag_in, text_in, any_text_in, choice_in, meaning, numbers_in, integers_in, list_in, are_integers as all_integers, count, each, array_in, are_known, table_in};
 ghost use Rattle.xif_job.specs.Tables.{members, data_of, texts_of, words_of};
 
 use crate::{Field, JobFault};
 use std::alloc::Global;
 use toml::{Table, Value};
 use xif_base::Name;
+use xif_drive::Delays;
 
 /// What a field is where nothing stands at its name.
 #[derive(Debug, Drop)]
@@ -29,6 +30,12 @@ pub(crate) struct Range {
     pub low: u64,
     pub high: u64,
 }
+
+/// The delays that a list may have.
+const DELAYS: Range = Range {
+    low: 0,
+    high: 65_535,
+};
 
 impl<T: Drop> Absent<T> {
     fn value(self, field: Field) -> Result<T, JobFault>
@@ -202,15 +209,31 @@ pub(crate) fn flag(
 pub(crate) fn text(alloc: Global, field: Field, value: Option<&Value>) -> Result<Name, JobFault>
     ensures { ReadsAs (λ n. n) result (text_in field Absent.Missing (data_of value.entry)) }
 {
-    Ok(Name::of(alloc, text_of(field, value)?)?)
-}
-
-fn text_of<'a>(field: Field, value: Option<&'a Value>) -> Result<&'a str, JobFault>
-    ensures { ReadsAs (λ t. t.now) result (text_in field Absent.Missing (data_of value.entry)) }
-{
     let Some(value) = value else {
         return Err(JobFault::MissingField(field));
     };
+    Ok(Name::of(alloc, text_of(field, value)?)?)
+}
+
+/// A text that isn't empty, or another one where the field is absent.
+pub(crate) fn text_or(
+    alloc: Global,
+    field: Field,
+    default: &str,
+    value: Option<&Value>,
+) -> Result<Name, JobFault>
+    ensures { ReadsAs (λ n. n) result
+        (text_in field (Absent.Default default.now) (data_of value.entry)) }
+{
+    let Some(value) = value else {
+        return Ok(Name::of(alloc, default)?);
+    };
+    Ok(Name::of(alloc, text_of(field, value)?)?)
+}
+
+fn text_of<'a>(field: Field, value: &'a Value) -> Result<&'a str, JobFault>
+    ensures { ReadsAs (λ t. t.now) result (text_in field Absent.Missing (Some (view value.now))) }
+{
     let Some(text) = value.as_str() else {
         return Err(JobFault::WrongKind(field));
     };
@@ -332,6 +355,35 @@ fn each_integer(
         numbers.push(integer(field, range, value)? as u32)?;
     }
     Ok(numbers)
+}
+
+/// An array of any number of delays, in cycles. An absent one is a single 0.
+pub(crate) fn delays(alloc: Global, field: Field, value: Option<&Value>) -> Result<Delays, JobFault>
+    ensures { ReadsAs (λ d. d) result
+        (list_in field (0 to 65535) (Absent.Default (0 ∷ [])) (data_of value.entry)) }
+{
+    let Some(value) = value else {
+        return Ok(Delays::from_slice(alloc, &[0])?);
+    };
+    let Some(array) = value.as_array() else {
+        return Err(JobFault::WrongKind(field));
+    };
+    if are_integers(array) {
+        each_delay(alloc, field, array)
+    } else {
+        Err(JobFault::WrongKind(field))
+    }
+}
+
+fn each_delay(alloc: Global, field: Field, values: &[Value]) -> Result<Delays, JobFault>
+    ensures { ReadsAs (λ d. d) result
+        (each (integer_in field (0 to 65535)) (items_view values.now)) }
+{
+    let mut delays = Delays::new(alloc);
+    for value in values {
+        delays.push(integer(field, DELAYS, value)? as u16)?;
+    }
+    Ok(delays)
 }
 
 /// The items of an array: none where it is absent.

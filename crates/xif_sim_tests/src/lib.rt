@@ -14,6 +14,10 @@ mod flight;
 #[cfg(test)]
 mod images;
 #[cfg(test)]
+mod log;
+#[cfg(test)]
 mod machine;
 #[cfg(test)]
 mod rv32;
+#[cfg(test)]
+mod simulate;

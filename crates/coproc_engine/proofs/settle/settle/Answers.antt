@@ -23,5 +23,6 @@ loop-hart-preserved c =
           ∙ ap₂ (λ state us. take (i + 1) (slice_set units i state) ++ units_in_harts table (i + 1) (drop (i + 1) (slice_set units i state)) us) (sym c.settle_hart.ensures.state) (sym c.settle_hart.ensures.uses);
       states = All-set (IsStateOf table) units i now c.settle_hart.ensures.fits c.loop-hart.invariant.states;
       entries = c.settle_hart.ensures.kept;
+      narrow = λ flags bits n. c.settle_hart.ensures.narrow flags bits (c.loop-hart.invariant.narrow flags bits n);
       count = length-set units i now ∙ c.loop-hart.invariant.count;
     }

@@ -1,7 +1,7 @@
-use Rattle.std.proofs.Common.{◌≡◌, ◌++◌, take, drop}
+use Rattle.std.proofs.Common.{◌≡◌, ℕ, ◌++◌, take, drop}
 use Rattle.coproc_config.specs.State.{IsStateOf}
 use Rattle.cycle_spec.specs.Engine as spec
-use Rattle.coproc_engine.specs.Fits.{HaveEntries}
+use Rattle.coproc_engine.specs.Fits.{HaveEntries, AreNarrow}
 use Rattle.coproc_engine.proofs.settle.settle_hart.Given as goal
 
 abbrev pub invariant-loop-i : goal.invariant-loop-i
@@ -10,4 +10,5 @@ invariant-loop-i l = record {
   state : spec.units_behind l.set spec.is_complete l.hart l.fn.state l.fn.uses ≡ spec.units_behind l.set spec.is_complete l.hart l.state (drop l.i l.uses);
   fits : IsStateOf l.set l.state;
   entries : HaveEntries l.set l.uses;
+  narrow : (flags bits : ℕ) → AreNarrow flags bits l.fn.uses → AreNarrow flags bits l.uses;
 }

@@ -6,5 +6,5 @@ use Rattle.flight_table.proofs.change.change_slice.Goals as goal
 pub loop-entry-preserved : goal.loop-entry-preserved
 loop-entry-preserved c =
     let lt : c.loop-entry.entry-index < length c.args.entries.now = omega arith in
-    ap (λ e. set c.loop-entry.entries c.loop-entry.entry-index e) c.changed.ensures
+    ap (λ e. set c.loop-entry.entries c.loop-entry.entry-index e) c.change_entry.ensures
     ∙ mapped_more (changed c.args.change c.args.seq) c.args.entries.now c.loop-entry.entries c.loop-entry.entry-index _ lt c.loop-entry.invariant

@@ -1,7 +1,7 @@
 use Rattle.std.proofs.Common.{◌≡◌, inl, [], Result, Ok, Err, rules}
 use Rattle.std.specs.String.{string_bytes}
 use Rattle.xif_cli.specs.declared.status.Status.{Status}
-use Rattle.xif_cli.specs.Outcome.{Answer, judge_status}
+use Rattle.xif_cli.specs.Outcome.{Answer, prints, judge_status}
 use Rattle.xif_cli.specs.Reading.{seen}
 use Rattle.xif_cli.proofs.Steps.{ends_refused, ends_read, refused_with, refuses-waveform}
 use Rattle.xif_cli.proofs.Judging.{waveform_in, answer_to, answer-fail, no_read_fault, answer-judged}
@@ -30,7 +30,7 @@ returns-clause-ends g c =
     let read = ends.1.0.0.represents job.map job.params [] c.in_ok-judge.ensures.represents in
     let judged = c.in_ok-judged.ensures.judged job.map job.params ends.0 read in
     let answer = answer-judged job ends.0 c.in_ok-judged.judged c.end_of-end.result (string_bytes c.in_ok-text.text) judged c.end_of-end.ensures c.in_ok-text.ensures in
-    ends_read (waveform_in c.args.waveform.now) (answer_to job) ends.0 (Ok (record { end = c.end_of-end.result; text = string_bytes c.in_ok-text.text })) ends.1.1 (inl answer) (λ w is. absurd (cc))
+    ends_read (waveform_in c.args.waveform.now) (answer_to job) ends.0 (Ok (prints c.end_of-end.result (string_bytes c.in_ok-text.text))) ends.1.1 (inl answer) (λ w is. absurd (cc))
 
 pub returns-in_err-read_into-clause-refusal : goal.returns-in_err-read_into-clause-refusal
 returns-in_err-read_into-clause-refusal g c =

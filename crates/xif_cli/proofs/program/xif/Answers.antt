@@ -1,26 +1,50 @@
-use Rattle.std.proofs.Common.{◌≡◌, ◌⊎◌, inl, inr, Option, Some, None, Result, Err, refl}
-use Rattle.xif_cli.specs.declared.status.Status.{Status}
-use Rattle.xif_cli.specs.declared.status.Status.TheVariants.{ReadFault}
-use Rattle.xif_cli.specs.Outcome.{Answer}
-use Rattle.xif_cli.specs.Words.{form_of}
+use Rattle.std.proofs.Common.{◌≡◌, inl, inr, false, Ok, Err, map, string_bytes, subst, ap, sym, ◌∙◌}
+use Rattle.xif_base.specs.Faults.{OnlyReads}
+use Rattle.xif_cli.specs.Ending.{Means, is_built, has_targets}
+use Rattle.xif_cli.specs.Outcome.{Lookup, Answer, command_outcome, found}
+use Rattle.xif_cli.specs.Words.{Form, IsCommand, form_of}
+use Rattle.xif_cli.proofs.Concluding.{done_so, broken_so}
+use Rattle.xif_cli.proofs.Forms.{one_form}
 use Rattle.xif_cli.proofs.program.xif.Goals as goal
 
-told_or_not : {A : Type 0} (files : Option A) → (files ≡ None) ⊎ ((m : A) × (files ≡ Some m))
-told_or_not None = inl refl
-told_or_not (Some m) = inr (m, refl)
+pub returns-clause-output_is_defined : goal.returns-clause-output_is_defined
+returns-clause-output_is_defined g c = λ end is m told.
+    done_so (λ answer meant. (form_of c.in-Some.command, (c.in-Some.ensures.found, meant))) (c.perform.ensures.concludes.output end is m told)
 
-pub returns-in-Err-clause-read_fault_has_cause : goal.returns-in-Err-clause-read_fault_has_cause
-returns-in-Err-clause-read_fault_has_cause g c = λ w is.
-    let same : (let r : Result Answer Status = Err c.in-Err.status in r) ≡ Err (ReadFault w) = cc in
-    elim (told_or_not (g.S.Shelf.files c.args.shelf.now)) [
-      | inl none ↦ inl (c.in-Err.ensures.ends.unreported none w same)
-      | inr told ↦ elim (c.in-Err.ensures.ends.outcome told.0 told.1) [
-        | inl meant ↦ inr (told.0, (told.1, (form_of c.in-Some.command, (c.in-Some.ensures.found, meant))))
-        | inr stop ↦ elim stop [ inl lacks ↦ absurd (cc) | inr faulted ↦ inl faulted.0 ]
-      ]
-    ]
+pub returns-clause-prefix_is_written : goal.returns-clause-prefix_is_written
+returns-clause-prefix_is_written g c = λ w is m told.
+    broken_so (λ answer meant. (form_of c.in-Some.command, (c.in-Some.ensures.found, meant))) (c.perform.ensures.concludes.prefix w is m told)
 
-pub returns-in-Err-clause-earlier_files_are_lawful : goal.returns-in-Err-clause-earlier_files_are_lawful
-returns-in-Err-clause-earlier_files_are_lawful g c = λ w is m told.
-    let same : (let r : Result Answer Status = Err c.in-Err.status in r) ≡ Err (ReadFault w) = cc in
-    (form_of c.in-Some.command, (c.in-Some.ensures.found, c.in-Err.ensures.ends.before m told w same))
+pub returns-clause-after_no_memory : goal.returns-clause-after_no_memory
+returns-clause-after_no_memory g c = λ none m told. elim (c.perform.ensures.concludes.no_memory none m told) [
+  | inl same ↦ inl same
+  | inr broken ↦ inr (broken.0, broken_so (λ answer meant. (form_of c.in-Some.command, (c.in-Some.ensures.found, meant))) broken.1)
+]
+
+pub returns-clause-read_fault_has_cause : goal.returns-clause-read_fault_has_cause
+returns-clause-read_fault_has_cause g c = λ w is. elim (c.perform.ensures.concludes.read_fault w is) [
+  | inl faulted ↦ inl faulted
+  | inr meant ↦ inr (meant.0, (meant.1.0, (form_of c.in-Some.command, (c.in-Some.ensures.found, meant.1.1))))
+]
+
+pub returns-clause-completes_as_defined : goal.returns-clause-completes_as_defined
+returns-clause-completes_as_defined g c = λ m told answer means.
+    let form = form_of c.in-Some.command in
+    let same : means.0 ≡ form = one_form (map string_bytes c.args.words.now) means.0 form means.1.0 c.in-Some.ensures.found in
+    c.perform.ensures.concludes.completes m told answer (subst (λ f. command_outcome f (found m) ≡ Ok answer) same means.1.1)
+
+pub returns-clause-refuses_as_defined : goal.returns-clause-refuses_as_defined
+returns-clause-refuses_as_defined g c = λ m told status means.
+    let form = form_of c.in-Some.command in
+    let same : means.0 ≡ form = one_form (map string_bytes c.args.words.now) means.0 form means.1.0 c.in-Some.ensures.found in
+    c.perform.ensures.concludes.refuses m told status (subst (λ f. command_outcome f (found m) ≡ Err status) same means.1.1)
+
+pub returns-clause-unbuilt_reads_nothing : goal.returns-clause-unbuilt_reads_nothing
+returns-clause-unbuilt_reads_nothing g c = λ form is unbuilt.
+    let same : form ≡ form_of c.in-Some.command = one_form (map string_bytes c.args.words.now) form (form_of c.in-Some.command) is c.in-Some.ensures.found in
+    c.perform.ensures.unbuilt (subst (λ f. is_built f ≡ false) same unbuilt)
+
+pub returns-clause-others_only_read : goal.returns-clause-others_only_read
+returns-clause-others_only_read g c = λ form is none.
+    let same : form ≡ form_of c.in-Some.command = one_form (map string_bytes c.args.words.now) form (form_of c.in-Some.command) is c.in-Some.ensures.found in
+    c.perform.ensures.only_reads (subst (λ f. has_targets f ≡ false) same none)

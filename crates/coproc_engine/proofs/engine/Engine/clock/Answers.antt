@@ -1,4 +1,6 @@
 use Rattle.std.proofs.Common.{List, ◌+◌, ap, rules, arith, ap₂, ◌≡◌, ◌<◌, ◌≤◌, length, subst, sym, ◌∙◌, filter, not, vec_capacity, IsTrue, All}
+use Rattle.xif_signals.specs.declared.signal.Signal.TheVariants.{ResultData, ResultWe}
+use Rattle.xif_signals.specs.Signal.{width_of}
 use Rattle.coproc_config.specs.Accept.{hit_of}
 use Rattle.coproc_config.specs.State.{IsStateOf}
 use Rattle.std.proofs.lemmas.List.{with_items_is, length-map}
@@ -8,11 +10,12 @@ use Rattle.cycle_spec.specs.State.{Engine}
 use Rattle.cycle_spec.specs.Engine as spec
 use Rattle.cycle_spec.specs.Turns.{transactions_after}
 use Rattle.cycle_spec.specs.Counts.{AreCountedBy}
-use Rattle.coproc_engine.specs.Fits.{IsKey, IsCounted, AreKeys, AreUnits, AreUses, HaveEntries, ahead_in_harts, keys_of, room_of}
+use Rattle.coproc_engine.specs.Fits.{IsKey, IsCounted, AreKeys, AreUnits, AreUses, AreNarrow, HaveEntries, ahead_in_harts, keys_of, room_of}
 use Rattle.cycle_spec.proofs.Counted.{after_counted}
 use Rattle.coproc_engine.proofs.Counted.{accepted_counted}
 use Rattle.coproc_engine.proofs.Keys.{room-left, fit}
-use Rattle.coproc_engine.proofs.Kept.{offered-valid, started-entries, ended-entries, settled-keys}
+use Rattle.coproc_engine.proofs.Kept.{offered-valid, started-entries, ended-entries, ended-narrow, settled-keys}
+use Rattle.coproc_engine.proofs.Narrow.{started-narrow}
 use Rattle.coproc_engine.proofs.engine.Engine.clock.Goals as goal
 
 pub start_step-requires : goal.start_step-requires
@@ -40,7 +43,7 @@ settle-requires-clause-entries c =
     let given : c.given_step.new.uses ≡ spec.given_uses e cpu cop = c.given_step.ensures ∙ ap (spec.given_step cpu cop) answered in
     let decided : c.decide_step.new.uses ≡ spec.decided_uses e cpu cop = c.decide_step.ensures ∙ ap (spec.decide_step cpu) given in
     let ended : c.end_step.new.uses ≡ spec.ended_uses e cpu cop input =
-    c.end_step.ensures ∙ ap₂ (λ offered us. spec.end_step offered cop input us) c.offered_use-offered.ensures decided in
+    c.end_step.ensures ∙ ap₂ (λ offered us. spec.end_step offered cop input us) c.offered_use-offered.ensures.value decided in
     let entries : HaveEntries e.set e.uses = subst (λ (x : Engine). HaveEntries x.set x.uses) c.self.view_is c.self.invariant.1.1.0.entries in
     let begun : HaveEntries x.set c.as_mut_slice-uses.result.now =
     subst (λ us. HaveEntries x.set us) (sym started)
@@ -68,7 +71,7 @@ invariant_of-self c =
     let given : c.given_step.new.uses ≡ spec.given_uses e cpu cop = c.given_step.ensures ∙ ap (spec.given_step cpu cop) answered in
     let decided : c.decide_step.new.uses ≡ spec.decided_uses e cpu cop = c.decide_step.ensures ∙ ap (spec.decide_step cpu) given in
     let ended : c.end_step.new.uses ≡ spec.ended_uses e cpu cop input =
-    c.end_step.ensures ∙ ap₂ (λ offered us. spec.end_step offered cop input us) c.offered_use-offered.ensures decided in
+    c.end_step.ensures ∙ ap₂ (λ offered us. spec.end_step offered cop input us) c.offered_use-offered.ensures.value decided in
     let at : c.deref_mut.result.now ≡ x.units.items = search rules in
     let settled_are : c.settle.new.uses ≡ spec.settled_uses e cpu cop input =
     c.settle.ensures.uses
@@ -83,6 +86,13 @@ invariant_of-self c =
     let uses : length c.settle.new.uses ≡ c.start_step.new.uses.len = search rules in
     let states : All (IsStateOf x.set) c.settle.new.units = c.settle.ensures.fits in
     let entries : HaveEntries x.set c.settle.new.uses = c.settle.ensures.kept in
+    let flags = width_of ResultWe x.params in
+    let bits = width_of ResultData x.params in
+    let was_narrow : AreNarrow flags bits e.uses = subst (λ (y : Engine). AreNarrow flags bits y.uses) c.self.view_is c.self.invariant.1.1.0.narrow in
+    let started_narrow : AreNarrow flags bits c.as_mut_slice-uses.result.now = subst (AreNarrow flags bits) (sym started) (started-narrow flags bits e cpu was_narrow) in
+    let answered_narrow : AreNarrow flags bits (spec.answered_uses e cpu cop) = subst (AreNarrow flags bits) answered (c.answer_step.ensures.narrow started_narrow) in
+    let ended_narrow : AreNarrow flags bits c.end_step.new.uses = subst (AreNarrow flags bits) (sym ended) (ended-narrow e cpu cop input flags bits answered_narrow) in
+    let narrow : AreNarrow flags bits c.settle.new.uses = c.settle.ensures.narrow flags bits ended_narrow in
     let units_are : (with_items x.units c.settle.new.units).items ≡ c.settle.new.units = with_items_is x.units c.settle.new.units units in
     let uses_are : (with_items c.start_step.new.uses c.settle.new.uses).items ≡ c.settle.new.uses = with_items_is c.start_step.new.uses c.settle.new.uses uses in
     let ahead : length c.look_ahead.new.ahead ≡ x.ahead.len = search rules in
@@ -102,7 +112,7 @@ invariant_of-self c =
             (record { harts = units ∙ x.units.ok.0 ∙ c.self.invariant.1.0.harts; states = states }),
         (
           subst (λ us. AreUses x.params x.set us (vec_capacity c.start_step.new.uses)) (sym uses_are)
-              (record { entries = entries; keys = settled; fits = fits }),
+              (record { entries = entries; narrow = narrow; keys = settled; fits = fits }),
           (
             subst (λ states. AreUnits x.params x.set states) (sym ahead_are)
                 (record { harts = ahead ∙ x.ahead.ok.0 ∙ c.self.invariant.1.1.1.0.harts; states = fit }),
@@ -131,7 +141,7 @@ returns-clause-after c =
     let given : c.given_step.new.uses ≡ spec.given_uses e cpu cop = c.given_step.ensures ∙ ap (spec.given_step cpu cop) answered in
     let decided : c.decide_step.new.uses ≡ spec.decided_uses e cpu cop = c.decide_step.ensures ∙ ap (spec.decide_step cpu) given in
     let ended : c.end_step.new.uses ≡ spec.ended_uses e cpu cop input =
-    c.end_step.ensures ∙ ap₂ (λ offered us. spec.end_step offered cop input us) c.offered_use-offered.ensures decided in
+    c.end_step.ensures ∙ ap₂ (λ offered us. spec.end_step offered cop input us) c.offered_use-offered.ensures.value decided in
     let at : c.deref_mut.result.now ≡ x.units.items = search rules in
     let settled_are : c.settle.new.uses ≡ spec.settled_uses e cpu cop input =
     c.settle.ensures.uses
@@ -161,7 +171,7 @@ returns-clause-after c =
     ∙ ap (λ owner. transactions_after x.register_turns owner cop.register_ready) register
     ∙ ap (λ (y : Engine). transactions_after y.register_turns (spec.owner_if cpu.register_valid (spec.register_start e cpu)) cop.register_ready) v in
     let waiting : c.result_waiting_after-self-inside.result ≡ spec.result_waiting_after (spec.offered_use e) input =
-    c.result_waiting_after-self-inside.ensures ∙ ap (λ offered. spec.result_waiting_after offered input) c.offered_use-offered.ensures in
+    c.result_waiting_after-self-inside.ensures ∙ ap (λ offered. spec.result_waiting_after offered input) c.offered_use-offered.ensures.value in
     λ i. record {
       params = (v i).params;
       set = (v i).set;

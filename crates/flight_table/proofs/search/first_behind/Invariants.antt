@@ -1,0 +1,8 @@
+use Rattle.std.proofs.Common.{◌≡◌, drop}
+use Rattle.std.specs.Prelude.{find}
+use Rattle.flight_table.specs.Wanted.{passes}
+use Rattle.flight_table.proofs.search.first_behind.Given as goal
+
+abbrev pub invariant-loop-index : goal.invariant-loop-index
+invariant-loop-index l =
+    find (passes l.wanted) (drop l.count l.ring.items) ≡ find (passes l.wanted) (drop l.index l.ring.items)

@@ -1,0 +1,160 @@
+//! What the core does in a cycle, chosen from the state at its start.
+ghost use Rattle.std.specs.Prelude.{◌≡◌, if◌then◌else◌, is_some, None};
+ghost use Rattle.cycle_spec.specs.Choices as spec;
+ghost use Rattle.cycle_spec.specs.Flight.{youngest_released};
+ghost use Rattle.spec_core.specs.Drives.{FitsPresent, AreChosen};
+
+use crate::commit::{kill_among, release_in};
+use crate::cut::{either_cut, store_cut};
+use crate::oldest::{retirement_among, stop_at};
+use crate::state::CoreState;
+use cycle_spec::{Choices, Cut, Entry, Executed, Mode};
+use flight_table::{FlightTable, Wanted};
+use inorder_machine::StopCause;
+
+/// Nothing is done.
+const NO_CHOICES: Choices = Choices {
+    stop: None,
+    retire: None,
+    execute: None,
+    cut: None,
+    drain: None,
+    offer: None,
+    present: None,
+    kill: None,
+    release: None,
+    dispatch: false,
+};
+
+impl CoreState {
+    /// What the core does in a cycle.
+    pub fn choices(&self) -> Choices
+        ensures { AreChosen self.now result }
+    {
+        self.choices_in(self.mode)
+    }
+
+    fn choices_in(&self, mode: Mode) -> Choices
+        ensures value { result ≡ spec.choices_in self.now mode }
+        ensures fits { FitsPresent self.now.params result }
+    {
+        match mode {
+            Mode::Running => self.choices_by(stop_at(&self.table)),
+            Mode::DrainBegins => self.choices_drain_begins(stay_of(&self.table)),
+            Mode::Draining => self.choices_draining(self.table.len()),
+        }
+    }
+
+    fn choices_by(&self, stop: Option<StopCause>) -> Choices
+        ensures value { result ≡ spec.choices_by self.now stop }
+        ensures fits { FitsPresent self.now.params result }
+    {
+        match stop {
+            None => self.choices_running(),
+            Some(cause) => self.choices_stopping(cause),
+        }
+    }
+
+    /// The oldest entry stops the machine: the uses in flight are killed, and nothing else is done.
+    fn choices_stopping(&self, cause: StopCause) -> Choices
+        ensures value { result ≡ spec.choices_stopping self.now cause }
+        ensures fits { FitsPresent self.now.params result }
+    {
+        Choices {
+            stop: Some(cause),
+            kill: self.table.first_behind(0, Wanted::Pending),
+            ..NO_CHOICES
+        }
+    }
+
+    /// A cut by a store comes before one by a control transfer, and then nothing executes.
+    fn choices_running(&self) -> Choices
+        ensures value { result ≡ spec.choices_running self.now }
+        ensures fits { FitsPresent self.now.params result }
+    {
+        let retire = retirement_among(&self.table, self.table.len());
+        let hit = store_cut(&self.table, retire);
+        let execute = self.execution_unless(hit);
+        let cut = either_cut(hit, self.control_cut(execute));
+        self.choices_with(retire, execute, cut)
+    }
+
+    fn choices_with(
+        &self,
+        retire: Option<Entry>,
+        execute: Option<Executed>,
+        cut: Option<Cut>,
+    ) -> Choices
+        ensures value { result ≡ spec.choices_with self.now retire execute cut }
+        ensures fits { FitsPresent self.now.params result }
+    {
+        let offer = self.table.first_behind(0, Wanted::Open);
+        Choices {
+            retire,
+            execute,
+            cut,
+            offer,
+            present: self.present_in(offer, self.table.len()),
+            kill: kill_among(&self.table, cut, offer),
+            release: release_in(&self.table, cut),
+            dispatch: self.may_dispatch(cut),
+            ..NO_CHOICES
+        }
+    }
+
+    /// Nothing executes where a store cuts.
+    fn execution_unless(&self, hit: Option<Cut>) -> Option<Executed>
+        ensures { result ≡ (if is_some hit
+            then None
+            else spec.execution self.now self.now.flight) }
+    {
+        match hit {
+            Some(_) => None,
+            None => self.execution(self.table.len()),
+        }
+    }
+
+    /// There is room, nothing in flight stops the machine, and nothing is cut.
+    fn may_dispatch(&self, cut: Option<Cut>) -> bool
+        ensures { result ≡ spec.may_dispatch self.now cut }
+    {
+        self.table.len() < self.window && !self.table.is_any_stopping() && cut.is_none()
+    }
+
+    /// In a drain only the oldest entries, those that stay, retire, execute and are presented.
+    fn choices_draining(&self, stay: u8) -> Choices
+        ensures value { result ≡ spec.choices_draining self.now stay }
+        ensures fits { FitsPresent self.now.params result }
+    {
+        Choices {
+            retire: retirement_among(&self.table, stay),
+            execute: self.execution(stay),
+            present: self.present_in(None, stay),
+            ..NO_CHOICES
+        }
+    }
+
+    /// A drain begins: the entries up to the youngest released use stay, and the others are
+    /// dropped.
+    fn choices_drain_begins(&self, stay: u8) -> Choices
+        ensures value { result ≡ spec.choices_drain_begins self.now stay }
+        ensures fits { FitsPresent self.now.params result }
+    {
+        Choices {
+            drain: Some(stay),
+            kill: self.table.first_behind(stay, Wanted::Pending),
+            ..self.choices_draining(stay)
+        }
+    }
+}
+
+/// How many entries stay where a drain begins.
+fn stay_of(table: &FlightTable) -> u8
+    ensures { result
+        ≡ spec.stay_with (youngest_released table.now.entries) table.now.entries }
+{
+    match table.youngest_released() {
+        None => 0,
+        Some(entry) => table.count_through(entry.seq),
+    }
+}

@@ -1,0 +1,48 @@
+-- A front of what was written so far is a front of the whole.
+use Rattle.std.proofs.Common.{◌≡◌, ◌≤◌, ◌+◌, ◌-◌, ℕ, List, [], ◌∷◌, ◌++◌, length, take, Option, Some, None, arith, refl, sym, ap, subst, ◌∙◌, append_assoc}
+use Rattle.std.specs.Option.{option_map}
+use Rattle.std.specs.FinMap as map
+use Rattle.std.proofs.lemmas.Grind.{common_steps}
+use Rattle.xif_base.specs.Files.{Files}
+use Rattle.xif_base.specs.declared.outside.WriteFail.TheVariants.{NoMemory}
+use Rattle.xif_signals.specs.declared.bus.Bus.{Bus}
+use Rattle.vcd_text.specs.Writing.{Progress, Wrote}
+use Rattle.vcd_text.specs.Written.{cycles_text, vcd_text_of}
+use Rattle.xif_targets.specs.Writing.{IsWritten, IsWrittenInPart, IsGrowing, IsCountedFail}
+use Rattle.xif_targets.proofs.Growing.{growing-part}
+use Rattle.trace_file.specs.Tracing.{Tracing, IsTracing}
+
+pub part-longer : (before now : Option Files) (name bytes more : List ℕ) → IsWrittenInPart before now name bytes → IsWrittenInPart before now name (bytes ++ more)
+part-longer before now name bytes more part =
+    let len : length (bytes ++ more) ≡ length bytes + length more = grind (arith, common_steps) in
+    let same : take part.count (bytes ++ more) ≡ take part.count bytes = take-before bytes more part.count part.within in
+    record {
+      count = part.count;
+      within = omega (arith, len, part.within);
+      by_front = part.by_front ∙ ap (λ text. option_map (λ m. map.insert m name text) before) (sym same);
+    }
+  where
+    take-before : (xs ys : List ℕ) (n : ℕ) → n ≤ length xs → take n (xs ++ ys) ≡ take n xs
+    take-before xs ys n h = grind (arith, common_steps)
+
+-- a part of the text so far is one of the whole, whatever buses follow
+pub part-whole : (before now : Option Files) (name : List ℕ) (w : Progress) (buses more : List Bus) (text : List ℕ) → Wrote w buses text → IsWrittenInPart before now name text → IsWrittenInPart before now name (vcd_text_of w.params (buses ++ more))
+part-whole before now name w buses more text wrote part = subst (IsWrittenInPart before now name) (wrote.joined more) (part-longer before now name text (cycles_text w.params w.cycles w.last more) part)
+
+-- likewise where nothing more was sent
+pub tracing-part : (before now : Option Files) (name : List ℕ) (t : Tracing) (buses more : List Bus) → IsTracing before now name t buses → IsWrittenInPart before now name (vcd_text_of t.writer.params (buses ++ more))
+tracing-part before now name t buses more tracing =
+    subst (IsWrittenInPart before now name) (tracing.wrote.joined more) (growing-part before now name t.pending tracing.text (cycles_text t.writer.params t.writer.cycles t.writer.last more) tracing.is_growing)
+
+pub one-more : (buses more : List Bus) (bus : Bus) → (buses ++ bus ∷ []) ++ more ≡ buses ++ bus ∷ more
+one-more buses more bus = append_assoc buses (bus ∷ []) more
+
+-- out of memory before any call of the shelf
+pub no-memory : {S : Type 0} {fetch_faults write_faults : S → ℕ} {faultless : S → Type 0} (s : S) → IsCountedFail fetch_faults write_faults faultless s s NoMemory
+no-memory s = record {
+  fetches = refl;
+  counts = record { count = omega arith; stays_faultless = λ said. said; no_fault = λ said. refl };
+  failed = λ e. cc;
+  has_faults = λ e. cc;
+  no_memory = λ e. refl;
+}

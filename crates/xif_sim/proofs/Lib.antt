@@ -1,0 +1,4 @@
+pub mod Extends
+mod Turned
+mod Whole
+mod Widths

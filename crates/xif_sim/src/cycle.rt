@@ -1,0 +1,81 @@
+//! A cycle of core and coprocessors on one bus.
+ghost use Rattle.std.specs.Prelude.{◌≡◌, ◌<◌, ◌^◌, IsTrue};
+ghost use Rattle.xif_signals.specs.Bus.{FitsWidths};
+ghost use Rattle.cycle_spec.specs.Choices.{choices};
+ghost use Rattle.cycle_spec.specs.Core.{learnt};
+ghost use Rattle.cycle_spec.specs.Counts.{IsCountedBy};
+ghost use Rattle.cycle_spec.specs.Cycle as spec;
+ghost use Rattle.cycle_spec.specs.Cycle.{Machines};
+
+use coproc_engine::Engine;
+use cycle_spec::CycleLog;
+use spec_core::Core;
+use xif_drive::Predictor;
+use xif_signals::{Bus, CopOut, CpuOut};
+
+/// One cycle. The bus carries `hart` where the core, which knows of one hart, says 0. The predictor
+/// is asked before it learns of what retires in the cycle.
+///
+/// Of core and engine it is asked that they have the same parameters, and that less than 2^63
+/// cycles passed.
+pub fn one_cycle<P: Predictor>(
+    core: &mut Core,
+    engine: &mut Engine,
+    hart: u8,
+    predictor: &mut P,
+) -> (Bus, CycleLog)
+    requires params { (core.old).params ≡ (engine.old).params }
+    requires hart { hart < (engine.old).params.num_harts }
+    requires counted { IsCountedBy (engine.old).cycle core.old }
+    requires count { (engine.old).cycle < 2 ^ 63 }
+    ensures bus { let m : Machines = record { core = core.old; engine = engine.old } in
+        result.0 ≡ spec.bus_at m hart }
+    ensures log { let m : Machines = record { core = core.old; engine = engine.old } in
+        result.1 ≡ spec.log_at m (P.answer predictor.old) }
+    ensures core { let m : Machines = record { core = core.old; engine = engine.old } in
+        core.new ≡ spec.core_next m hart (P.answer predictor.old) }
+    ensures engine { let m : Machines = record { core = core.old; engine = engine.old } in
+        engine.new ≡ spec.engine_next m hart }
+    ensures learnt { predictor.new ≡ learnt P.after (choices core.old).retire predictor.old }
+
+    // What the core drives carries the hart.
+    ensures issue_hart { IsTrue (result.0).issue_valid → (result.0).issue_hartid ≡ hart }
+    ensures register_hart { IsTrue (result.0).register_valid → (result.0).register_hartid ≡ hart }
+    ensures commit_hart { IsTrue (result.0).commit_valid → (result.0).commit_hartid ≡ hart }
+    ensures fits { FitsWidths (core.old).params result.0 }
+    ensures counted { IsCountedBy (engine.new).cycle core.new }
+{
+    let driven = core.drive();
+    let cpu = for_hart(hart, driven);
+    let cop = engine.drive(&cpu);
+    let input = core.accepts(&cop);
+    let log = core.clock(&Bus::join(&driven, &for_core(cop), &input), predictor);
+    engine.clock(&cpu, &cop, &input);
+    (Bus::join(&cpu, &cop, &input), log)
+}
+
+fn for_hart(hart: u8, cpu: CpuOut) -> CpuOut
+    ensures { result ≡ spec.for_hart hart cpu }
+{
+    CpuOut {
+        issue_hartid: hart_if(cpu.issue_valid, hart),
+        register_hartid: hart_if(cpu.register_valid, hart),
+        commit_hartid: hart_if(cpu.commit_valid, hart),
+        ..cpu
+    }
+}
+
+fn hart_if(valid: bool, hart: u8) -> u8
+    ensures { result ≡ spec.hart_if valid hart }
+{
+    if valid { hart } else { 0 }
+}
+
+fn for_core(cop: CopOut) -> CopOut
+    ensures { result ≡ spec.for_core cop }
+{
+    CopOut {
+        result_hartid: 0,
+        ..cop
+    }
+}
