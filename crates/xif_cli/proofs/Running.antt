@@ -1,6 +1,6 @@
 -- How `run` can end.
 use Rattle.std.proofs.Common.{◌≡◌, ◌⊎◌, inl, inr, ◌||◌, ℕ, List, Option, true, refl, sym, subst, arith}
-use Rattle.std.specs.Prelude.{IsTrue}
+use Rattle.std.specs.Prelude.{IsTrue, Result, Ok}
 use Rattle.xif_base.specs.Files.{Files}
 use Rattle.xif_base.specs.declared.outside.Which.{Which}
 use Rattle.xif_base.specs.declared.outside.Which.TheVariants as which
@@ -9,7 +9,9 @@ use Rattle.xif_cli.specs.declared.status.Status.{Status}
 use Rattle.xif_cli.specs.declared.status.Status.TheVariants.{Done, Illegal, Usage, ReadFault, WriteFault, Job, Image, Vcd, Map, TooBig, NoMemory, Unbuilt}
 use Rattle.xif_cli.specs.Concluding.{Delivers}
 use Rattle.xif_cli.specs.Ending.{IsFaulted, IsFaultedAt, IsRefusal, writes, can_end}
-use Rattle.xif_cli.specs.Outcome.{Answer, end_status}
+use Rattle.xif_image.specs.Image.{Placement}
+use Rattle.xif_job.specs.declared.job.Job.{Job as Job'}
+use Rattle.xif_cli.specs.Outcome.{Answer, end_status, run_answer}
 use Rattle.xif_cli.specs.Reading.{can_refuse_job, can_refuse_image}
 use Rattle.xif_cli.specs.Words as form
 
@@ -61,3 +63,7 @@ refused_is (WriteFault w) t = cc
 refused_is (Vcd fault) t = cc
 refused_is (Map fault) t = cc
 refused_is Unbuilt t = cc
+
+-- what is meant of a job and its image
+abbrev pub run_of_loaded : Job' × Placement → Result Answer Status
+run_of_loaded l = Ok (run_answer l.0 l.1)

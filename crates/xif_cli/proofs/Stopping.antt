@@ -1,6 +1,7 @@
 -- What stands where the writing of a run's files stops, and how the command then ends.
 use Rattle.std.proofs.Common.{◌≡◌, ◌⊎◌, inl, inr, ℕ, List, [], ◌∷◌, ◌++◌, take, Option, Some, None, refl, sym, ap, subst, ◌∙◌, arith}
 use Rattle.std.specs.Option.{option_map}
+use Rattle.std.specs.Prelude.{Result, Ok, Err, IfErr}
 use Rattle.std.specs.FinMap as map
 use Rattle.xif_base.specs.Faults.{Rose, CountsFaults}
 use Rattle.xif_base.specs.Files.{Files}
@@ -132,3 +133,8 @@ module _ {S O : Type 0} {files : S → Option Files} {fetch_faults write_faults 
     puts_reported = inl refl;
     puts_counted = record { count = omega arith; stays_faultless = λ said. said; no_fault = λ said. refl };
   }
+
+-- two facts of an error
+pub err_both : {T E : Type 0} {P Q R : E → Type 0} (r : Result T E) → ((e : E) → P e → Q e → R e) → IfErr r P → IfErr r Q → IfErr r R
+err_both (Ok x) f p q = tt
+err_both (Err e) f p q = f e p q
