@@ -1,0 +1,22 @@
+pub mod Lists
+pub mod Walks
+pub mod Sources
+pub mod Rows
+pub mod Writes
+pub mod Hits
+pub mod Carried
+pub mod Outcomes
+pub mod Memories
+pub mod Views
+pub mod Uses
+pub mod Agreeing
+pub mod Safe
+pub mod Keeping
+pub mod Releasing
+pub mod Retiring
+pub mod Refining
+pub mod Fetches
+pub mod Halves
+pub mod EntryChanges
+pub mod Presenting
+mod Examples
