@@ -1,0 +1,2 @@
+//! Core and engine stay paired.
+#![tactic(auto)]
