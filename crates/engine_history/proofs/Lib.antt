@@ -1,0 +1,17 @@
+pub mod Lists
+pub mod Keep
+pub mod Plain
+pub mod Fields
+pub mod Kept
+pub mod Turns
+pub mod Settle
+pub mod Grown
+pub mod Ready
+pub mod Lanes
+pub mod Units
+pub mod Applied
+pub mod Settled
+pub mod Cycle
+pub mod Stepped
+pub mod Offered
+pub mod Ordered

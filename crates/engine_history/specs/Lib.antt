@@ -1,0 +1,4 @@
+pub mod Lives
+pub mod Runs
+pub mod Channels
+pub mod Told
