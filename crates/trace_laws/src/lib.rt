@@ -1,0 +1,2 @@
+//! Core and engine keep the rules of the interface.
+#![tactic(auto)]
