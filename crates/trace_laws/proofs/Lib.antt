@@ -1,2 +1,4 @@
 pub mod Apart
 pub mod Uses
+pub mod EngineTold
+pub mod EngineSteps
