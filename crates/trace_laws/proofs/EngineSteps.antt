@@ -85,7 +85,7 @@ running facts u r f =
     ap is_running r.is_fact ∙ ap (λ x. is_some u.hit && not (x || u.finished)) (unkilled u.decision r.computed.released)
     ∙ ap (λ x. is_some u.hit && not x) f ∙ and-true (is_some u.hit) true r.computed.accepted refl
 
-named_other : (p : Past) (b : Bus) (key : Key) → starts_key p b key ≡ false → named p b key ≡ p.facts key
+pub named_other : (p : Past) (b : Bus) (key : Key) → starts_key p b key ≡ false → named p b key ≡ p.facts key
 named_other p b key q = ap (λ t. if t then Some (new_fact p.cycle b.issue_instr) else p.facts key) q
 
 pub named_new : (p : Past) (b : Bus) (key : Key) → starts_key p b key ≡ true → named p b key ≡ Some (new_fact p.cycle b.issue_instr)
@@ -180,16 +180,19 @@ no_hit : (response : Option Response) (hit : Option Hit) → response ≡ None �
 no_hit None hit q a = a
 no_hit (Some x) hit q a = cc
 
+pub unanswered : (F : Facts) (b : Bus) (key : Key) → (is_issued b && same_key (issue_key b) key) ≡ false → answered_on b F key ≡ F key
+unanswered F b key q = ap (λ t. option_map (with_response t (response_on b)) (F key)) q ∙ same (F key)
+  where
+    same : (o : Option Fact) → option_map (with_response false (response_on b)) o ≡ o
+    same None = refl
+    same (Some f) = refl
+
 pub stage_answered : (F : Facts) (b : Bus) (harts start : ℕ) (v : Bool) (n : ℕ) (hit : Option Hit) (order s : ℕ) (us : List Use) (t : Bool)
     → is_issued b ≡ t → (t ≡ true → Offered F (issue_key b) s) → (t ≡ true → response_on b ≡ answer hit)
     → Stage F harts b start v n us → Stage (answered_on b F) harts b start v n (if t then map (with_answer s hit order) us else us)
 stage_answered F b harts start v n hit order s us false q off says st =
     stage_move F (answered_on b F) harts b start v v n us (λ key. some_map _ (F key)) (answered-apart n b F st.apart) (λ h. h)
-    (λ u k. (moved F (answered_on b F) harts u (same u.key (F u.key)) k.0, k.1)) st
-  where
-    same : (key : Key) (o : Option Fact) → option_map (with_response (is_issued b && same_key (issue_key b) key) (response_on b)) o ≡ o
-    same key None = refl
-    same key (Some f) = ap (λ t. Some (with_response (t && same_key (issue_key b) key) (response_on b) f)) q
+    (λ u k. (moved F (answered_on b F) harts u (unanswered F b u.key (ap (λ t. t && same_key (issue_key b) u.key) q)) k.0, k.1)) st
 stage_answered F b harts start v n hit order s us true q off says st =
     stage_map F (answered_on b F) harts b start v v n (with_answer s hit order) us (λ u. refl) (λ u. refl) (λ key. some_map _ (F key)) (answered-apart n b F st.apart) (λ h. h) one st
   where
