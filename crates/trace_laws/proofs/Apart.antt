@@ -4,8 +4,8 @@ use Rattle.std.specs.Option.{option_map}
 use Rattle.xif_base.specs.declared.params.Key.{Key}
 use Rattle.xif_signals.specs.declared.bus.Bus.{Bus}
 use Rattle.xif_session.specs.declared.fact.Fact.{Fact}
-use Rattle.xif_session.specs.Facts.{Facts, Past, past_of, past_after, is_start, starts_key, issue_key, register_key, result_key, same_key, is_issued, is_given, is_taken, new_fact, named, answered_on, given_on, decided_from, decided_on, ended_on, effective_start, with_response, with_operands, with_decision, with_end, response_on}
-use Rattle.xif_session.proofs.Options.{Was, was_of, same_some, both-true, key_is}
+use Rattle.xif_session.specs.Facts.{Facts, Past, past_of, is_start, starts_key, issue_key, register_key, result_key, same_key, is_issued, is_given, is_taken, new_fact, named, answered_on, given_on, decided_on, ended_on, effective_start, with_response, with_operands, with_decision, with_end, response_on}
+use Rattle.xif_session.proofs.Options.{was_of, same_some, both-true, key_is}
 
 -- starts lie before a cycle, and differ
 pub record Apart (n : ℕ) (facts : Facts) : Type 0 where

@@ -1,5 +1,5 @@
 -- A cycle of the engine beside a core that keeps its rules: the uses behind each step.
-use Rattle.std.proofs.Common.{◌≡◌, ◌<◌, ◌+◌, ◌++◌, ◌==◌, ◌&&◌, ◌||◌, not, ℕ, Bool, true, false, if◌then◌else◌, Option, Some, None, List, [], ◌∷◌, map, filter, refl, sym, ap, ◌∙◌, subst}
+use Rattle.std.proofs.Common.{◌≡◌, ◌+◌, ◌++◌, ◌&&◌, ◌||◌, not, ℕ, Bool, true, false, if◌then◌else◌, Option, Some, None, List, [], ◌∷◌, map, refl, sym, ap, ◌∙◌, subst}
 use Rattle.std.specs.Prelude.{is_some, find}
 use Rattle.std.specs.List.{list_any}
 use Rattle.std.specs.Option.{option_map}
@@ -13,11 +13,11 @@ use Rattle.xif_signals.specs.declared.bus.CpuIn.{CpuIn}
 use Rattle.xif_signals.specs.Bus.{join_of}
 use Rattle.xif_session.specs.declared.fact.Response.{Response}
 use Rattle.xif_session.specs.declared.fact.Fact.{Fact}
-use Rattle.xif_session.specs.Facts.{Facts, Past, past_after, same_key, has_killed, is_killed, is_in_flight, is_running, issue_key, register_key, commit_key, result_key, issue_waits, result_waits, is_issued, is_given, is_taken, issue_continues, is_start, starts_key, new_fact, named, now, answered_on, given_on, decided_on, ended_on, undecided_start, effective_start, with_response, response_on}
-use Rattle.xif_session.specs.Rules.{HasOperands, IsWithin}
+use Rattle.xif_session.specs.Facts.{Facts, Past, past_after, same_key, has_killed, is_killed, is_running, issue_key, register_key, commit_key, issue_waits, result_waits, is_issued, is_given, is_taken, issue_continues, is_start, new_fact, named, now, answered_on, given_on, decided_on, ended_on, undecided_start, effective_start, with_response, response_on}
+use Rattle.xif_session.specs.Rules.{IsWithin}
 use Rattle.xif_session.specs.Legal.{CoreKeeps}
 use Rattle.xif_session.specs.Tests.{is_within}
-use Rattle.xif_session.proofs.Options.{Was, was_of, same_some, both-true, and-true, no_true, not_in, not_out, key_is, key_same}
+use Rattle.xif_session.proofs.Options.{Was, was_of, same_some, both-true, and-true, no_true, not_in, key_is, key_same}
 use Rattle.xif_session.proofs.RuleTests.{within_in}
 use Rattle.cycle_spec.specs.declared.turn.Transaction.{Transaction}
 use Rattle.cycle_spec.specs.declared.use_of.Use.{Use}
@@ -30,12 +30,11 @@ use Rattle.cycle_lists.proofs.Tests.{or-false_left, false-or}
 use Rattle.cycle_lists.proofs.Every.{Each-from, Each-both, Each-at}
 use Rattle.cycle_lists.proofs.Places.{any-at, first-at}
 use Rattle.trace_laws.specs.Driven.{bus_beside}
-use Rattle.trace_laws.proofs.Apart.{Apart}
-use Rattle.trace_laws.proofs.Uses.{same-bool, any-in, only, Rises}
-use Rattle.trace_laws.proofs.EngineTold.{answer, AnsweredBy, fact_of, Told, Shows, Kept, Covers, Stage, Waits, IssueTold, Holds, ResultTold, EngineTold, Named, latest_named, Found, found, start_found, not-none}
-use Rattle.trace_laws.proofs.EngineSteps.{stage_unstarted, stage_started, named_other, named_new, Offered, unanswered, stage_answered, IsServed, stage_given, stage_decided, stage_ended, stage_units}
+use Rattle.trace_laws.proofs.Uses.{same-bool, any-in, only}
+use Rattle.trace_laws.proofs.EngineTold.{answer, AnsweredBy, fact_of, Told, Shows, Kept, Stage, Waits, IssueTold, ResultTold, EngineTold, Named, latest_named, found, start_found, not-none}
+use Rattle.trace_laws.proofs.EngineSteps.{stage_unstarted, stage_started, named_other, named_new, Offered, stage_answered, IsServed, stage_given, stage_decided, stage_ended, stage_units}
 
-find-some : {A : Type 0} (test : A → Bool) (xs : List A) → list_any test xs ≡ true → is_some (find test xs) ≡ true
+pub find-some : {A : Type 0} (test : A → Bool) (xs : List A) → list_any test xs ≡ true → is_some (find test xs) ≡ true
 find-some test [] h = cc
 find-some test (x ∷ xs) h = go (test x) h (find-some test xs)
   where
@@ -73,7 +72,7 @@ undecided_same b F key = go (F key)
     go (Some f) = refl
 
 -- what a use was offered for, and its response
-abbrev seen : Option Fact → Option (ℕ × Option Response)
+abbrev pub seen : Option Fact → Option (ℕ × Option Response)
 seen = option_map (λ f. (f.start, f.response))
 
 decided_seen : (b : Bus) (start : Option ℕ) (F : Facts) (key : Key) → seen (decided_on b start F key) ≡ seen (F key)
@@ -85,7 +84,7 @@ decided_seen b (Some s) F key = go (F key)
     go (Some f) = refl
 
 -- behind the issue handshake they stay
-seen_after : (p : Past) (b : Bus) (key : Key) → seen ((past_after p b).facts key) ≡ seen (answered_on b (named p b) key)
+pub seen_after : (p : Past) (b : Bus) (key : Key) → seen ((past_after p b).facts key) ≡ seen (answered_on b (named p b) key)
 seen_after p b key =
     ended_seen (now p b key) ∙ decided_seen b (effective_start p b) (given_on b (answered_on b (named p b))) key ∙ given_seen (answered_on b (named p b) key)
   where
@@ -97,13 +96,13 @@ seen_after p b key =
     given_seen None = refl
     given_seen (Some f) = refl
 
-record Seen (o : Option Fact) (start : ℕ) (response : Option Response) : Type 0 where
+pub record Seen (o : Option Fact) (start : ℕ) (response : Option Response) : Type 0 where
   pub fact : Fact
   pub there : o ≡ Some fact
   pub start_is : fact.start ≡ start
   pub response_is : fact.response ≡ response
 
-seen_some : (o : Option Fact) (start : ℕ) (response : Option Response) → seen o ≡ Some (start, response) → Seen o start response
+pub seen_some : (o : Option Fact) (start : ℕ) (response : Option Response) → seen o ≡ Some (start, response) → Seen o start response
 seen_some None start response q = cc
 seen_some (Some f) start response q =
     let both : (f.start, f.response) ≡ (start, response) = same_some (seen (Some f)) _ _ refl q in
@@ -158,11 +157,11 @@ module _ (e : Engine) (p : Past) (cpu : CpuOut) (input : CpuIn) (t : EngineTold 
       go false q = refl
       go true q = ap not (goes_same q)
 
-  abbrev bus_with : Option Use → Bus
+  abbrev pub bus_with : Option Use → Bus
   bus_with o = join_of cpu (cop_out (issue_ready e cpu) (response_hit e cpu) (register_ready e cpu) o) input
 
   -- before the cycle
-  first_stage : Stage p.facts harts bus (use_or (offered_use e)).start (is_some (offered_use e)) p.cycle e.uses
+  pub first_stage : Stage p.facts harts bus (use_or (offered_use e)).start (is_some (offered_use e)) p.cycle e.uses
   first_stage = go (offered_use e) refl
     where
       go : (o : Option Use) → offered_use e ≡ o → Stage p.facts harts (bus_with o) (use_or o).start (is_some o) p.cycle e.uses
@@ -200,7 +199,7 @@ module _ (e : Engine) (p : Past) (cpu : CpuOut) (input : CpuIn) (t : EngineTold 
   told_started = Each-from (Kept (named p bus) harts bus (use_or (offered_use e)).start (is_some (offered_use e))) (Told (named p bus) harts) (started_uses e cpu) (λ u x. x.0) started_stage.each
 
   -- the use on the issue channel has no response
-  offered : cpu.issue_valid ≡ true → Offered (named p bus) (engine.issue_key cpu) (issue_start e cpu)
+  pub offered : cpu.issue_valid ≡ true → Offered (named p bus) (engine.issue_key cpu) (issue_start e cpu)
   offered v = by_start (is_start p bus) refl
     where
       made : (f : Fact) → named p bus (engine.issue_key cpu) ≡ Some f → f.response ≡ None → Offered (named p bus) (engine.issue_key cpu) (issue_start e cpu)
@@ -225,7 +224,7 @@ module _ (e : Engine) (p : Past) (cpu : CpuOut) (input : CpuIn) (t : EngineTold 
   issued_valid : is_issued bus ≡ true → cpu.issue_valid ≡ true
   issued_valid h = (both-true cpu.issue_valid (issue_ready e cpu) h).0
 
-  response_taken : is_issued bus ≡ true → response_hit e cpu ≡ offered_hit e cpu
+  pub response_taken : is_issued bus ≡ true → response_hit e cpu ≡ offered_hit e cpu
   response_taken h = ap (λ x. if x then offered_hit e cpu else None) (both-true cpu.issue_valid (issue_ready e cpu) h).1
 
   answered_stage : Stage (answered_on bus (named p bus)) harts bus (use_or (offered_use e)).start (is_some (offered_use e)) (p.cycle + 1) (answered_uses e cpu cop)
@@ -294,7 +293,7 @@ module _ (e : Engine) (p : Past) (cpu : CpuOut) (input : CpuIn) (t : EngineTold 
       (ap (λ x. if cpu.commit_valid then x else None) (sym (undecided_same bus (named p bus) (commit_key bus)))) given_stage
 
   -- after it
-  last_stage : Stage (past_after p bus).facts harts bus (use_or (offered_use e)).start (result_waits bus) (p.cycle + 1) (settled_uses e cpu cop input)
+  pub last_stage : Stage (past_after p bus).facts harts bus (use_or (offered_use e)).start (result_waits bus) (p.cycle + 1) (settled_uses e cpu cop input)
   last_stage =
       stage_units (past_after p bus).facts bus harts _ (result_waits bus) (p.cycle + 1) e.set e.cycle 0 e.units (ended_uses e cpu cop input)
       (subst (Stage (past_after p bus).facts harts bus (use_or (offered_use e)).start (result_waits bus) (p.cycle + 1)) (by_offer (offered_use e))

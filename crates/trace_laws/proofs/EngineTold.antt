@@ -1,8 +1,8 @@
 -- What the engine keeps, against what the buses say: each use is the latest of its key, with the
 -- facts of it, and each latest use of a key is kept.
-use Rattle.std.proofs.Common.{◌≡◌, ◌<◌, ◌+◌, ◌++◌, ◌==◌, ℕ, Bool, true, false, if◌then◌else◌, Option, Some, None, List, [], ◌∷◌, refl, sym, ap, ◌∙◌, subst}
+use Rattle.std.proofs.Common.{◌≡◌, ◌<◌, ◌==◌, ℕ, Bool, true, false, if◌then◌else◌, Option, Some, None, List, refl, sym, ap, ◌∙◌}
 use Rattle.std.specs.Prelude.{is_some}
-use Rattle.std.specs.List.{list_any, last_or}
+use Rattle.std.specs.List.{list_any}
 use Rattle.std.specs.Option.{option_map_or}
 use Rattle.std.proofs.lemmas.Bool.{eqb-true, eqb-false}
 use Rattle.rv32_table.specs.Instr.{rd_field}
@@ -21,7 +21,7 @@ use Rattle.cycle_spec.specs.State.{Engine}
 use Rattle.cycle_spec.specs.Engine.{has_key, has_start, latest, writeback_of, register_read_of, has_operands, start_of}
 use Rattle.cycle_lists.specs.Lists.{Each}
 use Rattle.cycle_lists.proofs.Every.{Each-at}
-use Rattle.cycle_lists.proofs.Places.{last-found, any-at}
+use Rattle.cycle_lists.proofs.Places.{last-found}
 use Rattle.trace_laws.proofs.Apart.{Apart}
 use Rattle.trace_laws.proofs.Uses.{none-last, Rises}
 

@@ -1,13 +1,8 @@
 -- Lists of uses: members by key and by start, and the order of their starts.
-use Rattle.std.proofs.Common.{◌≡◌, ◌<◌, ◌+◌, ◌++◌, ◌||◌, not, ℕ, Bool, true, false, if◌then◌else◌, Option, Some, None, List, [], ◌∷◌, map, filter, refl, sym, ap, ◌∙◌, subst, arith}
-use Rattle.std.specs.Prelude.{find, is_some}
+use Rattle.std.proofs.Common.{◌≡◌, ◌<◌, ◌+◌, ◌++◌, ◌||◌, ℕ, Bool, true, false, if◌then◌else◌, Some, None, List, [], ◌∷◌, map, filter, refl, sym, ap, ◌∙◌, subst, arith}
 use Rattle.std.specs.List.{list_any, last_or}
-use Rattle.std.proofs.lemmas.Bool.{eqb-true}
-use Rattle.xif_base.specs.declared.params.Key.{Key}
-use Rattle.xif_session.specs.Facts.{same_key}
 use Rattle.cycle_spec.specs.declared.use_of.Use.{Use}
-use Rattle.cycle_spec.specs.Engine.{has_key, has_start}
-use Rattle.cycle_lists.specs.Lists.{Each, Pairs, FirstAt, LastAt}
+use Rattle.cycle_lists.specs.Lists.{Each, Pairs}
 use Rattle.cycle_lists.proofs.Tests.{or-left, or-right, or-cases}
 use Rattle.cycle_lists.proofs.Every.{Each-from, Each-map, Each-filter, Each-push, Each-append, Pairs-map, Pairs-filter, Pairs-push, Pairs-older, Pairs-younger}
 
