@@ -28,7 +28,8 @@ pub record LastAt {A : Type 0} (test : A → Bool) (xs : List A) (x : A) : Type 
   pub others : Each (λ y. test y ≡ false) younger
 
 -- An element of a filtered list stands in the list, with what is before and behind it.
-pub record Unfiltered {A : Type 0} (test : A → Bool) (xs fs : List A) (y : A) (gs : List A) : Type 0 where
+pub record Unfiltered {A : Type 0} (test : A → Bool) (xs fs : List A) (y : A) (gs : List A)
+    : Type 0 where
   pub front : List A
   pub back : List A
   pub here : xs ≡ front ++ y ∷ back

@@ -1,6 +1,6 @@
 -- What the units leave of uses: those that are ready now have a result, and nothing else changes.
-use Rattle.std.proofs.Common.{◌≡◌, ◌<◌, ◌==◌, ◌&&◌, ◌||◌, ◌+◌, ℕ, Bool, true, false, cond, not, List, [], ◌∷◌, filter, Option, Some, None, refl, sym, ap, ◌∙◌, subst}
-use Rattle.std.specs.Prelude.{is_some, is_none, IsSome, ⊤}
+use Rattle.std.proofs.Common.{◌≡◌, ◌<◌, ◌==◌, ◌&&◌, ◌+◌, ℕ, Bool, true, false, cond, not, List, [], ◌∷◌, refl, sym, ap, ◌∙◌, subst}
+use Rattle.std.specs.Prelude.{is_none, IsSome, ⊤}
 use Rattle.coproc_config.specs.Set.{UnitTable}
 use Rattle.xif_session.specs.Facts.{is_released, is_killed}
 use Rattle.cycle_spec.specs.declared.entry.Entry.{Entry}
@@ -9,7 +9,6 @@ use Rattle.cycle_spec.specs.Engine.{is_accepted, has_operands, is_complete, is_n
 use Rattle.cycle_lists.specs.Lists.{Each, Pairs}
 use Rattle.cycle_lists.proofs.Tests.{and-left, and-right}
 use Rattle.cycle_paired.specs.Paired.{is_live_use, live_uses, Alike, Match, IsReady, IsUse, Older, Offers, HasResult}
-use Rattle.cycle_paired.proofs.Carrying.{older-kept}
 
 -- a use before and after: it may have become ready
 pub record Readied (u v : Use) : Type 0 where

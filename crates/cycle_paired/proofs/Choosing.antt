@@ -1,16 +1,14 @@
 -- What the core chooses, in facts.
-use Rattle.std.proofs.Common.{◌≡◌, ◌≢◌, ◌<◌, ◌==◌, ◌&&◌, ◌||◌, ◌+◌, ◌++◌, ℕ, zero, suc, Bool, true, false, cond, not, List, [], ◌∷◌, map, filter, take, drop, length, Option, Some, None, refl, sym, ap, ◌∙◌, subst, arith, append_assoc}
-use Rattle.std.specs.Prelude.{find, is_some, is_none, IsSome, IfSome, ⊤}
+use Rattle.std.proofs.Common.{◌≡◌, ◌≢◌, ◌==◌, ◌&&◌, ◌||◌, ◌+◌, ◌++◌, ℕ, zero, suc, Bool, true, false, cond, not, List, [], ◌∷◌, filter, take, drop, length, Option, Some, None, refl, sym, ap, ◌∙◌, subst, arith, append_assoc}
+use Rattle.std.specs.Prelude.{find, is_some, IfSome, ⊤}
 use Rattle.std.specs.Option.{option_or, option_and_then, option_map}
 use Rattle.std.specs.List.{last_or}
-use Rattle.std.proofs.lemmas.Bool.{eqb-true, eqb-false, eq-eqb, ne_eqb}
+use Rattle.std.proofs.lemmas.Bool.{eq-eqb, ne_eqb}
 use Rattle.std.proofs.lemmas.List.{take-append-drop, drop_at}
-use Rattle.rv32_table.specs.declared.instr.Instr.{Instr}
 use Rattle.rv32_table.specs.declared.instr.Kind.{Kind}
 use Rattle.rv32_table.specs.declared.instr.Kind.TheVariants as row
-use Rattle.rv32_table.specs.Instr.{kind_of, sources_of}
+use Rattle.rv32_table.specs.Instr.{kind_of}
 use Rattle.xif_drive.specs.Predictors.{following}
-use Rattle.inorder_machine.specs.declared.line.Retire.{Retire}
 use Rattle.inorder_machine.specs.declared.line.Store.{Store}
 use Rattle.inorder_machine.specs.declared.line.Stepped.{Stepped}
 use Rattle.inorder_machine.specs.declared.line.Stepped.TheVariants.{Retired, Stop}
@@ -24,13 +22,13 @@ use Rattle.cycle_spec.specs.declared.entry.Entry.{Entry}
 use Rattle.cycle_spec.specs.declared.entry.EntryKind.{EntryKind}
 use Rattle.cycle_spec.specs.declared.entry.EntryKind.TheVariants.{Local, Unknown, Nowhere}
 use Rattle.cycle_spec.specs.declared.log.Cut.{Cut}
-use Rattle.cycle_spec.specs.Flight.{is_row, is_store, is_store_row, is_control, is_control_row, is_open, is_pending, is_undecided, is_waiting, is_stopping, has_seq, older_than, count_through, may_execute, may_execute_kind, ready_behind, ready_oldest, is_safe, is_safe_kind, is_safe_row, behind_safe, certain, youngest_released}
+use Rattle.cycle_spec.specs.Flight.{is_row, is_store_row, is_control, is_control_row, is_open, is_pending, is_undecided, is_waiting, is_stopping, older_than, count_through, may_execute, may_execute_kind, ready_behind, ready_oldest, is_safe, is_safe_kind, is_safe_row, behind_safe, certain, youngest_released}
 use Rattle.cycle_spec.specs.State.{Core}
-use Rattle.cycle_spec.specs.Choices.{stop_at, retirement, outcome_of, executed_kind, executed_entry, execution, is_any_hit, store_cut, transfer_cut, control_cut, gone_by, offer_in, presented_entry, presentation_of, present_in, kill_among, among, release_in, choices_with, choices_running, choices_by, choices_draining, choices_drain_begins, choices_in, choices, stay_with}
+use Rattle.cycle_spec.specs.Choices.{stop_at, retirement, outcome_of, executed_kind, executed_entry, execution, is_any_hit, store_cut, transfer_cut, control_cut, offer_in, presented_entry, presentation_of, kill_among, choices_with, choices_running, choices_by, choices_draining, choices_drain_begins, choices_in, choices, stay_with}
 use Rattle.cycle_spec.specs.Core.{cut_step, drain_step}
-use Rattle.cycle_lists.specs.Lists.{Each, Pairs, FirstAt, LastAt}
+use Rattle.cycle_lists.specs.Lists.{Each, Pairs, FirstAt}
 use Rattle.cycle_lists.specs.Order.{Before}
-use Rattle.cycle_lists.proofs.Tests.{and-left, and-right, and-false, not-both, not-in, false-or, or-false_left, some-is, some-from}
+use Rattle.cycle_lists.proofs.Tests.{and-left, and-false, not-both, not-in, false-or, or-false_left, some-is, some-from}
 use Rattle.cycle_lists.proofs.Every.{Each-from, Pairs-younger}
 use Rattle.cycle_lists.proofs.Places.{first-at, first-if, last-found}
 use Rattle.cycle_paired.specs.Paired.{IsEntry, Behind}

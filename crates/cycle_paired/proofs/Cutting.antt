@@ -1,6 +1,6 @@
 -- A cut and its kill, on both sides.
-use Rattle.std.proofs.Common.{◌≡◌, ◌≢◌, ◌<◌, ◌≤◌, ◌==◌, ◌&&◌, ◌||◌, ◌++◌, ℕ, zero, suc, Bool, true, false, cond, not, List, [], ◌∷◌, map, filter, take, drop, Option, Some, None, refl, sym, ap, ◌∙◌, subst, arith, append-nil, append_assoc}
-use Rattle.std.specs.Prelude.{nat_le, is_some, IsSome, find}
+use Rattle.std.proofs.Common.{◌≡◌, ◌≢◌, ◌<◌, ◌≤◌, ◌==◌, ◌&&◌, ◌++◌, ℕ, zero, suc, Bool, true, false, cond, not, List, [], ◌∷◌, map, take, drop, Some, None, refl, sym, ap, ◌∙◌, subst, arith, append-nil, append_assoc}
+use Rattle.std.specs.Prelude.{nat_le, is_some, find}
 use Rattle.std.proofs.lemmas.Bool.{eqb-true, eq-eqb}
 use Rattle.std.proofs.lemmas.List.{map-append, take-append-drop, same_from_push}
 use Rattle.xif_session.specs.declared.fact.Decision.{Decision}
@@ -8,22 +8,22 @@ use Rattle.xif_session.specs.declared.fact.Decision.TheVariants.{Undecided, Rele
 use Rattle.xif_session.specs.Facts.{is_released, is_killed, decision_after}
 use Rattle.cycle_spec.specs.declared.entry.Entry.{Entry}
 use Rattle.cycle_spec.specs.declared.use_of.Use.{Use}
-use Rattle.cycle_spec.specs.Flight.{is_unknown, is_open, is_pending, has_seq}
+use Rattle.cycle_spec.specs.Flight.{is_open, is_pending, has_seq}
 use Rattle.cycle_spec.specs.Engine.{latest, with_decision, decided_by}
-use Rattle.cycle_lists.specs.Lists.{Each, Pairs, FirstAt}
+use Rattle.cycle_lists.specs.Lists.{Each, Pairs}
 use Rattle.cycle_lists.specs.Order.{Before}
 use Rattle.cycle_lists.proofs.Tests.{and-left, and-right, and-false, not-both, false-or, not-in}
-use Rattle.cycle_lists.proofs.Every.{Each-front, Each-back, Each-append, Each-from, Each-both, Each-map, Each-filter, Each-unfilter, Each-take, Each-here, Each-at, Pairs-take, Pairs-older, Pairs-younger}
+use Rattle.cycle_lists.proofs.Every.{Each-front, Each-back, Each-from, Each-both, Each-map, Each-filter, Each-unfilter, Each-take, Each-here, Each-at, Pairs-take, Pairs-older, Pairs-younger}
 use Rattle.cycle_lists.proofs.Filters.{filter-append, filter-at, filter-past, filter-none}
 use Rattle.cycle_lists.proofs.Places.{first-at, first-none, map-none}
 use Rattle.cycle_lists.proofs.Order.{taken}
 use Rattle.cycle_lists.proofs.Tests.{le-out, le-above}
-use Rattle.cycle_paired.specs.Paired.{is_live, live_entries, is_live_use, live_uses, decision_of, Alike, Match, IsEntry, Behind, IsUse, Older, open_word, IsOffered, Offers}
+use Rattle.cycle_paired.specs.Paired.{is_live, live_entries, is_live_use, live_uses, decision_of, Match, IsEntry, Behind, IsUse, Older, open_word, Offers}
 use Rattle.cycle_paired.proofs.Facts.{Joint, none-dead, some-closed, only}
-use Rattle.cycle_paired.proofs.Matching.{Split, split, Match-uses, Found, found, latest-at}
+use Rattle.cycle_paired.proofs.Matching.{split, Match-uses, found, latest-at}
 use Rattle.cycle_paired.proofs.Carrying.{older-map, below-map, leaves-decision}
 use Rattle.cycle_paired.proofs.Answering.{Offered}
-use Rattle.cycle_paired.proofs.Growing.{Grown, AllGrown, GrownAt, grown-at, grown-drop, Each-grown, OnlyOpen}
+use Rattle.cycle_paired.proofs.Growing.{Grown, AllGrown, grown-at, grown-drop, Each-grown, OnlyOpen}
 use Rattle.cycle_paired.proofs.Releasing.{use-decided, decided-named}
 
 -- ---- decisions

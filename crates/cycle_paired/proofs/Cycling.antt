@@ -1,41 +1,35 @@
 -- Every cycle keeps core and engine paired.
-use Rattle.std.proofs.Common.{◌≡◌, ◌<◌, ◌==◌, ◌&&◌, ◌||◌, ◌+◌, ◌++◌, ℕ, Bool, true, false, cond, not, List, [], ◌∷◌, map, Option, Some, None, refl, sym, ap, ◌∙◌, subst}
-use Rattle.std.specs.Prelude.{is_some, IsSome, IfSome}
+use Rattle.std.proofs.Common.{◌≡◌, ◌&&◌, ◌+◌, ℕ, Bool, true, false, cond, not, List, map, Option, Some, None, refl, sym, ap, ◌∙◌, subst}
+use Rattle.std.specs.Prelude.{is_some, IfSome}
 use Rattle.rv32_table.specs.Instr.{rd_field}
 use Rattle.xif_image.specs.Region.{word_at}
 use Rattle.coproc_config.specs.declared.accept.Hit.{Hit}
 use Rattle.inorder_machine.specs.declared.line.Write.{Write}
-use Rattle.inorder_machine.specs.declared.stop.StopCause.{StopCause}
 use Rattle.inorder_machine.specs.Units.{unit_write}
 use Rattle.xif_signals.specs.declared.bus.CpuOut.{CpuOut}
 use Rattle.xif_session.specs.declared.fact.Response.{Response}
 use Rattle.cycle_spec.specs.declared.choices.Choices.{Choices}
 use Rattle.cycle_spec.specs.declared.choices.Presented.{Presented}
 use Rattle.cycle_spec.specs.declared.entry.Entry.{Entry}
-use Rattle.cycle_spec.specs.declared.turn.Transaction.{Transaction}
-use Rattle.cycle_spec.specs.declared.turn.Transactions.{Transactions}
 use Rattle.cycle_spec.specs.declared.use_of.Use.{Use}
-use Rattle.cycle_spec.specs.Flight.{is_open, is_waiting, holds_id, with_response, free_id}
-use Rattle.cycle_spec.specs.Turns.{turn_of, is_past, transactions_after}
-use Rattle.cycle_spec.specs.State.{Core, Engine}
-use Rattle.cycle_spec.specs.Choices.{choices}
-use Rattle.cycle_spec.specs.Core.{cpu_out, id_in, word_in, presented_id, sent_on_present, release_step, cut_step, drain_step, result_for, execute_step, retire_step, memory_behind, ahead_behind, entry_at, with_dispatch, dispatch_of, settled_entries}
-use Rattle.cycle_spec.specs.Engine.{issue_key, latest, offered_hit, issue_start, issue_ready, response_hit, register_use, register_start, may_take, register_ready, offered_use, use_or, writeback_of, with_answer, given_to, lanes_on, decided_by, ready_in_harts, owner_if, start_step, goes_on, started_uses}
-use Rattle.cycle_spec.specs.Cycle.{Machines, hart_if, for_hart, cpu_at, cop_at, input_at, core_bus_at, cycle}
-use Rattle.cycle_lists.specs.Lists.{Each, Pairs, FirstAt}
-use Rattle.cycle_lists.proofs.Tests.{not-both}
-use Rattle.cycle_lists.proofs.Free.{free}
-use Rattle.cycle_lists.proofs.Order.{core-kept, start-kept}
-use Rattle.cycle_paired.specs.Paired.{response_of, IsEntry, Offers, HasResult, Paired}
+use Rattle.cycle_spec.specs.Flight.{is_open, with_response, free_id}
+use Rattle.cycle_spec.specs.Turns.{turn_of, is_past}
+use Rattle.cycle_spec.specs.State.{Engine}
+use Rattle.cycle_spec.specs.Core.{cpu_out, id_in, word_in, presented_id, sent_on_present, release_step, cut_step, drain_step, execute_step, retire_step, memory_behind, ahead_behind, with_dispatch, dispatch_of}
+use Rattle.cycle_spec.specs.Engine.{latest, offered_hit, issue_start, issue_ready, response_hit, register_use, register_start, may_take, register_ready, offered_use, use_or, writeback_of, with_answer, given_to, lanes_on, ready_in_harts, start_step, goes_on, started_uses}
+use Rattle.cycle_spec.specs.Cycle.{Machines, hart_if, for_hart, input_at}
+use Rattle.cycle_lists.specs.Lists.{Each, FirstAt}
+use Rattle.cycle_lists.proofs.Order.{start-kept}
+use Rattle.cycle_paired.specs.Paired.{response_of, IsEntry, Paired}
 use Rattle.cycle_paired.proofs.Facts.{Joint}
 use Rattle.cycle_paired.proofs.Carrying.{Carries}
 use Rattle.cycle_paired.proofs.Starting.{OffersWord}
 use Rattle.cycle_paired.proofs.Answering.{mark}
 use Rattle.cycle_paired.proofs.Applying.{all-harts}
-use Rattle.cycle_paired.proofs.Choosing.{Facts, Way, Presents, Sound, sound}
+use Rattle.cycle_paired.proofs.Choosing.{Facts, Presents, Sound}
 use Rattle.cycle_paired.proofs.Staging.{Stage, OfferedStage, stage-offered, stage-quiet, stage-waiting, stage-waiting_offered, stage-presented}
 use Rattle.cycle_paired.proofs.Deciding.{Decided, decided_for, deciding-offered, deciding-quiet}
-use Rattle.cycle_paired.proofs.Lasting.{Late, Last, carried-at, late-decided, late-result, late-executed, late-retired, late-last, result_with, result_entries, result_uses, waiting_after}
+use Rattle.cycle_paired.proofs.Lasting.{Last, carried-at, late-decided, late-result, late-executed, late-retired, late-last, result_entries, result_uses, waiting_after}
 
 -- ---- from the invariant
 

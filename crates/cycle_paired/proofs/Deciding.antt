@@ -1,34 +1,31 @@
 -- The commit of a cycle and its cut, on both sides.
-use Rattle.std.proofs.Common.{◌≡◌, ◌≢◌, ◌<◌, ◌≤◌, ◌==◌, ◌&&◌, ◌||◌, ◌+◌, ◌++◌, ℕ, zero, suc, Bool, true, false, cond, not, List, [], ◌∷◌, map, filter, take, drop, Option, Some, None, refl, sym, ap, ◌∙◌, subst, arith, append-nil}
-use Rattle.std.specs.Prelude.{nat_le, find, is_some, IsSome}
-use Rattle.std.specs.Option.{option_or, option_and_then}
-use Rattle.std.proofs.lemmas.Bool.{eqb-true, eqb-false, eq-eqb, ne_eqb}
+use Rattle.std.proofs.Common.{◌≡◌, ◌≢◌, ◌<◌, ◌==◌, ◌&&◌, ◌||◌, ◌++◌, ℕ, zero, suc, Bool, true, false, cond, List, [], ◌∷◌, map, take, drop, Option, Some, None, refl, sym, ap, ◌∙◌, subst, arith}
+use Rattle.std.specs.Prelude.{find, is_some}
+use Rattle.std.specs.Option.{option_or}
+use Rattle.std.proofs.lemmas.Bool.{eqb-true, eqb-false}
 use Rattle.inorder_machine.specs.declared.line.Stepped.{Stepped}
-use Rattle.xif_session.specs.declared.fact.Decision.{Decision}
-use Rattle.xif_session.specs.declared.fact.Decision.TheVariants.{Undecided}
-use Rattle.xif_session.specs.Facts.{is_released, is_killed, is_undecided as is_decision_open, decision_after}
+use Rattle.xif_session.specs.Facts.{is_released, is_undecided as is_decision_open, decision_after}
 use Rattle.cycle_spec.specs.declared.choices.Choices.{Choices}
 use Rattle.cycle_spec.specs.declared.entry.Entry.{Entry}
-use Rattle.cycle_spec.specs.declared.entry.EntryKind.TheVariants.{Local}
 use Rattle.cycle_spec.specs.declared.use_of.Use.{Use}
-use Rattle.cycle_spec.specs.Flight.{is_unknown, is_open, is_pending, is_undecided, has_seq, with_release}
+use Rattle.cycle_spec.specs.Flight.{is_open, is_pending, has_seq, with_release}
 use Rattle.cycle_spec.specs.Choices.{kill_among, among}
 use Rattle.cycle_spec.specs.Core.{id_in, release_step, cut_step, drain_step}
 use Rattle.cycle_spec.specs.Engine.{latest, with_decision, decided_by}
 use Rattle.cycle_spec.specs.Cycle.{hart_if}
 use Rattle.cycle_lists.specs.Lists.{Each, Pairs, FirstAt}
 use Rattle.cycle_lists.specs.Order.{Before}
-use Rattle.cycle_lists.proofs.Tests.{and-left, and-false, not-both, false-or, le-above}
-use Rattle.cycle_lists.proofs.Every.{each, Each-append, Each-from, Each-both, Each-map, Each-take, Each-drop, Each-at, Each-front, Pairs-drop, Pairs-older}
+use Rattle.cycle_lists.proofs.Tests.{and-false, not-both, le-above}
+use Rattle.cycle_lists.proofs.Every.{each, Each-append, Each-from, Each-map, Each-take, Each-drop, Each-at, Pairs-drop, Pairs-older}
 use Rattle.cycle_lists.proofs.Places.{first-at, first-none}
-use Rattle.cycle_paired.specs.Paired.{live_uses, IsEntry, Behind, IsUse, Older, open_word, IsOffered, Offers}
+use Rattle.cycle_paired.specs.Paired.{IsEntry, Behind, Older, open_word, Offers}
 use Rattle.cycle_paired.proofs.Facts.{Joint, accepted-some, some-closed, open_word-at, open_word-map, only}
 use Rattle.cycle_paired.proofs.Carrying.{Carries, carries-map, leaves-decision}
 use Rattle.cycle_paired.proofs.Answering.{Offered}
 use Rattle.cycle_paired.proofs.Growing.{Grown, AllGrown, Each-grown, grown-drop, OnlyOpen}
-use Rattle.cycle_paired.proofs.Releasing.{undecided-accepted, release-kills-none, ReleaseDone, releasing}
+use Rattle.cycle_paired.proofs.Releasing.{undecided-accepted, release-kills-none, releasing}
 use Rattle.cycle_paired.proofs.Cutting.{Going, CutDone, cut-pending, cut-offered, cut-quiet, take-open}
-use Rattle.cycle_paired.proofs.Executing.{Exec, Execs}
+use Rattle.cycle_paired.proofs.Executing.{Execs}
 use Rattle.cycle_paired.proofs.Ending.{HeadDone}
 use Rattle.cycle_paired.proofs.Choosing.{Unreleased, Facts, CertainAt, Way, Quiet, Releases, Cuts}
 use Rattle.cycle_paired.proofs.Staging.{Stage, OfferedStage}
@@ -52,7 +49,7 @@ carries-decided kill None u us c = c
 carries-decided kill (Some v) u us c = go (is_decision_open v.decision)
   where
     go : (b : Bool) → Carries u (cond b (map (with_decision kill v) us) us)
-    go true = carries-map u (with_decision kill v) us (leaves-decision kill v) c
+    go true = carries-map u (with_decision kill v) us (leaves-decision kill v) c refl
     go false = c
 
 -- ---- what the entries leave

@@ -1,5 +1,5 @@
 -- An instruction of RV32IM that executes leaves the pairs.
-use Rattle.std.proofs.Common.{◌≡◌, ◌≢◌, ◌<◌, ◌==◌, ◌&&◌, ◌||◌, ◌++◌, ℕ, Bool, true, false, cond, not, List, [], ◌∷◌, map, filter, Option, Some, None, Result, Ok, Err, refl, sym, ap, ◌∙◌, subst, arith}
+use Rattle.std.proofs.Common.{◌≡◌, ◌==◌, ◌&&◌, ◌||◌, ℕ, Bool, true, false, cond, not, List, map, Some, None, Result, Ok, Err, refl, sym, ap, ◌∙◌, subst}
 use Rattle.std.specs.Prelude.{is_some, IsSome}
 use Rattle.std.proofs.lemmas.Bool.{eqb-true}
 use Rattle.rv32_table.specs.declared.instr.Instr.{Instr}
@@ -9,22 +9,18 @@ use Rattle.rv32_table.specs.Table.{Meaning, Computes, Loads, Stores, Jumps, Bran
 use Rattle.rv32_table.specs.Instr.{kind_by, kind_of, access_of, value_of, next_of}
 use Rattle.xif_image.specs.declared.memory.MemFault.{MemFault}
 use Rattle.xif_image.specs.declared.memory.MemFault.TheVariants as fault
-use Rattle.xif_image.specs.Region.{Region, fault_of, loaded}
+use Rattle.xif_image.specs.Region.{Region, loaded}
 use Rattle.inorder_machine.specs.declared.line.Retire.{Retire}
-use Rattle.inorder_machine.specs.declared.line.Store.{Store}
 use Rattle.inorder_machine.specs.declared.line.Stepped.{Stepped}
 use Rattle.inorder_machine.specs.declared.line.Stepped.TheVariants.{Retired, Stop}
 use Rattle.inorder_machine.specs.declared.stop.StopCause.{StopCause}
-use Rattle.inorder_machine.specs.Execute.{At, load_outcome, store_outcome, control_outcome, store_of, executed_by, executed}
-use Rattle.xif_session.specs.Facts.{is_accepted as is_response_accepted}
+use Rattle.inorder_machine.specs.Execute.{At, load_outcome, control_outcome, executed_by, executed}
 use Rattle.cycle_spec.specs.declared.entry.Entry.{Entry}
-use Rattle.cycle_spec.specs.declared.entry.EntryKind.{EntryKind}
-use Rattle.cycle_spec.specs.declared.entry.EntryKind.TheVariants.{Local, Unknown, Nowhere}
+use Rattle.cycle_spec.specs.declared.entry.EntryKind.TheVariants.{Local}
 use Rattle.cycle_spec.specs.declared.use_of.Use.{Use}
-use Rattle.cycle_spec.specs.Flight.{is_row, is_unknown, is_store, is_store_row, is_stopping, is_safe, is_safe_kind, is_safe_row, with_line, with_stop, with_outcome}
-use Rattle.cycle_lists.specs.Lists.{Each, Pairs}
-use Rattle.cycle_lists.specs.Order.{Before}
-use Rattle.cycle_lists.proofs.Tests.{and-left, and-right, and-false, or-false, not-both, false-or, not-in}
+use Rattle.cycle_spec.specs.Flight.{is_row, is_unknown, is_store_row, is_stopping, is_safe, is_safe_kind, is_safe_row, with_outcome}
+use Rattle.cycle_lists.specs.Lists.{Each}
+use Rattle.cycle_lists.proofs.Tests.{and-left, and-right, or-false, not-both, false-or, not-in}
 use Rattle.cycle_lists.proofs.Every.{Each-both, Each-map2, Pairs-map1}
 use Rattle.cycle_lists.proofs.Filters.{filter-map}
 use Rattle.cycle_lists.proofs.Order.{mapped, leaves-outcome}
@@ -140,6 +136,7 @@ entry-outcome s o e x ok = by-number IsEntry s o e ok retires stops
           unsent = ok.unsent;
           stores = λ z. ap (λ i. is_row is_store_row i) k.kind_is ∙ stores-only (row_line k.instr.row).meaning k.memory k.at_word k.instr k.a k.b line (sym k.is_it ∙ h) z;
           stops = ok.stops;
+          refused = ok.refused;
         }
 
     stops : e.seq ≡ s → (cause : StopCause) → o ≡ Stop cause → IsEntry (stop-by true cause e)
@@ -151,6 +148,7 @@ entry-outcome s o e x ok = by-number IsEntry s o e ok retires stops
       unsent = ok.unsent;
       stores = ok.stores;
       stops = λ z. refl;
+      refused = λ u z. absurd (not-unknown e (x q).instr (x q).kind_is u);
     }
 
 -- what was safe before stays safe

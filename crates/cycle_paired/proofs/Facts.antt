@@ -1,6 +1,6 @@
 -- What a cycle carries along of entries and uses, and small facts of each.
-use Rattle.std.proofs.Common.{◌≡◌, ◌≢◌, ◌<◌, ◌==◌, ◌&&◌, ◌||◌, ◌++◌, ℕ, Bool, true, false, cond, not, List, [], ◌∷◌, map, filter, Option, Some, None, refl, sym, ap, ◌∙◌, subst, arith}
-use Rattle.std.specs.Prelude.{is_some, is_none, IsSome, IfSome}
+use Rattle.std.proofs.Common.{◌≡◌, ◌≢◌, ◌<◌, ◌==◌, ◌&&◌, ◌++◌, ℕ, Bool, true, false, cond, not, List, [], ◌∷◌, map, Option, Some, None, refl, sym, ap, ◌∙◌, arith}
+use Rattle.std.specs.Prelude.{is_some, is_none, IsSome}
 use Rattle.xif_session.specs.declared.fact.Decision.{Decision}
 use Rattle.xif_session.specs.declared.fact.Decision.TheVariants.{Undecided, Released, Killed}
 use Rattle.xif_session.specs.declared.fact.Response.{Response}
@@ -13,7 +13,7 @@ use Rattle.cycle_spec.specs.Flight.{is_unknown, is_unknown_kind, is_open, is_sto
 use Rattle.cycle_spec.specs.Engine.{is_accepted}
 use Rattle.cycle_lists.specs.Lists.{Each, Pairs, FirstAt}
 use Rattle.cycle_lists.specs.Order.{Before}
-use Rattle.cycle_lists.proofs.Tests.{and-left, and-right, and-false, not-both, false-or, true-or, not-in, not-some, no-some}
+use Rattle.cycle_lists.proofs.Tests.{and-left, and-right, and-false, not-both, false-or, true-or, not-in, no-some}
 use Rattle.cycle_lists.proofs.Every.{Each-from, Each-both, Each-front, Each-back, Each-append, Each-filter, Each-passed, Pairs-older, Pairs-younger}
 use Rattle.cycle_lists.proofs.Order.{Kept}
 use Rattle.cycle_paired.specs.Paired.{is_live, live_entries, is_live_use, live_uses, Match, IsEntry, Behind, IsUse, Older, open_word}
@@ -152,9 +152,10 @@ only xs e ys b =
     (λ q. refl, Each-from (Before e) (λ x. x.seq ≡ e.seq → x ≡ e) ys (λ x k q. let r = k.rises in absurd (omega arith)) (Pairs-younger Before xs e ys b))
 
 pub other-numbers : (xs : List Entry) (e : Entry) (ys : List Entry) → Pairs Before (xs ++ e ∷ ys) → Each (λ x. x.seq ≢ e.seq) xs × Each (λ x. x.seq ≢ e.seq) ys
-other-numbers xs e ys b =
-    (Each-from (λ x. Before x e) (λ x. x.seq ≢ e.seq) xs (λ x k q. let r = k.rises in absurd (omega arith)) (Pairs-older Before xs e ys b),
-    Each-from (Before e) (λ x. x.seq ≢ e.seq) ys (λ x k q. let r = k.rises in absurd (omega arith)) (Pairs-younger Before xs e ys b))
+other-numbers xs e ys b = (
+  Each-from (λ x. Before x e) (λ x. x.seq ≢ e.seq) xs (λ x k q. let r = k.rises in absurd (omega arith)) (Pairs-older Before xs e ys b),
+  Each-from (Before e) (λ x. x.seq ≢ e.seq) ys (λ x k q. let r = k.rises in absurd (omega arith)) (Pairs-younger Before xs e ys b),
+)
 
 -- ---- uses
 
@@ -179,6 +180,7 @@ ready-live answered u ok r f =
     rw (accepted-answered answered u ok q.accepted, released-unkilled u.decision q.released, f) refl
 
 pub other-starts : (xs : List Use) (u : Use) (ys : List Use) → Pairs Older (xs ++ u ∷ ys) → Each (λ x. x.start ≢ u.start) xs × Each (λ x. x.start ≢ u.start) ys
-other-starts xs u ys b =
-    (Each-from (λ x. Older x u) (λ x. x.start ≢ u.start) xs (λ x k q. let r = k.rises in absurd (omega arith)) (Pairs-older Older xs u ys b),
-    Each-from (Older u) (λ x. x.start ≢ u.start) ys (λ x k q. let r = k.rises in absurd (omega arith)) (Pairs-younger Older xs u ys b))
+other-starts xs u ys b = (
+  Each-from (λ x. Older x u) (λ x. x.start ≢ u.start) xs (λ x k q. let r = k.rises in absurd (omega arith)) (Pairs-older Older xs u ys b),
+  Each-from (Older u) (λ x. x.start ≢ u.start) ys (λ x k q. let r = k.rises in absurd (omega arith)) (Pairs-younger Older xs u ys b),
+)

@@ -1,6 +1,6 @@
 -- A result, on both sides.
-use Rattle.std.proofs.Common.{◌≡◌, ◌≢◌, ◌<◌, ◌==◌, ◌&&◌, ◌||◌, ◌++◌, ℕ, Bool, true, false, cond, not, List, [], ◌∷◌, map, filter, Option, Some, None, refl, sym, ap, ◌∙◌, subst, arith}
-use Rattle.std.specs.Prelude.{find, is_some, IsSome}
+use Rattle.std.proofs.Common.{◌≡◌, ◌≢◌, ◌<◌, ◌==◌, ◌&&◌, ◌||◌, ◌++◌, ℕ, Bool, true, false, cond, not, List, ◌∷◌, map, Some, refl, sym, ap, ◌∙◌, subst}
+use Rattle.std.specs.Prelude.{find, is_some}
 use Rattle.std.proofs.lemmas.Bool.{eq-eqb, ne_eqb}
 use Rattle.inorder_machine.specs.declared.line.Write.{Write}
 use Rattle.xif_session.specs.Facts.{is_released, is_killed}
@@ -8,18 +8,18 @@ use Rattle.cycle_spec.specs.declared.entry.Entry.{Entry}
 use Rattle.cycle_spec.specs.declared.entry.EntryKind.{EntryKind}
 use Rattle.cycle_spec.specs.declared.entry.EntryKind.TheVariants.{Local, Unknown, Nowhere}
 use Rattle.cycle_spec.specs.declared.use_of.Use.{Use}
-use Rattle.cycle_spec.specs.Flight.{is_unknown, is_unknown_kind, is_open, is_stopping, is_safe, is_safe_kind, is_waiting, reads_registers, holds_id, with_result}
-use Rattle.cycle_spec.specs.Engine.{has_operands, register_read_of, with_end}
+use Rattle.cycle_spec.specs.Flight.{is_unknown, is_unknown_kind, is_open, is_stopping, is_safe_kind, reads_registers, holds_id, with_result}
+use Rattle.cycle_spec.specs.Engine.{register_read_of, with_end}
 use Rattle.cycle_lists.specs.Lists.{Each, Pairs}
 use Rattle.cycle_lists.specs.Order.{Before}
-use Rattle.cycle_lists.proofs.Tests.{and-false, or-false, or-true, not-both, true-or}
+use Rattle.cycle_lists.proofs.Tests.{and-false, or-false, or-true, not-both}
 use Rattle.cycle_lists.proofs.Every.{Each-from, Each-map, Each-here, Each-at, Each-passed, Each-replaced, Pairs-map, Pairs-replaced, Pairs-older, Pairs-younger}
-use Rattle.cycle_lists.proofs.Filters.{filter-append, filter-at, filter-past, unfilter}
+use Rattle.cycle_lists.proofs.Filters.{filter-at, filter-past, unfilter}
 use Rattle.cycle_lists.proofs.Places.{find-at, map-at}
 use Rattle.cycle_lists.proofs.Order.{mapped, leaves-result}
-use Rattle.cycle_paired.specs.Paired.{is_live, live_entries, is_live_use, live_uses, response_of, decision_of, Alike, Match, IsEntry, Behind, IsReady, IsUse, Older}
+use Rattle.cycle_paired.specs.Paired.{is_live, live_entries, is_live_use, live_uses, decision_of, Alike, Match, IsEntry, Behind, IsReady, IsUse, Older}
 use Rattle.cycle_paired.proofs.Facts.{Joint, live-closed, done-dead, ready-live, accepted-answered, other-numbers}
-use Rattle.cycle_paired.proofs.Matching.{Match-append, Joined, joined, change-use}
+use Rattle.cycle_paired.proofs.Matching.{Match-append, joined, change-use}
 use Rattle.cycle_paired.proofs.Carrying.{Carries, older-kept}
 
 abbrev pub finished : Write → Entry → Entry
@@ -76,6 +76,7 @@ entry-finished w hart e u ok l a r = record {
   unsent = λ h. absurd (not-both (is_open e) (live-closed e l) h);
   stores = ok.stores;
   stops = ok.stops;
+  refused = ok.refused;
 }
 
 pub other-id : (id : ℕ) (x e : Entry) → Before x e → is_unknown e ≡ true → e.id ≡ id → holds_id id x ≡ false
@@ -97,6 +98,7 @@ pub record Finished (hart n id c : ℕ) (answered : ℕ → Bool) (u : Use) (es 
   pub live_is : is_live entry ≡ true
   pub hart_is : u.key.hart ≡ hart
   pub word_is : entry.word ≡ u.word
+  pub hit_is : partner.hit ≡ u.hit
   pub result_is : partner.result ≡ u.result
   pub joint : (w : Write) → Joint hart n id c answered (map (with_result entry.seq w) es) (map (with_end u.start) us)
 
@@ -134,6 +136,7 @@ finishing hart n id c answered u es us k j =
       live_is = l;
       hart_is = ap (λ q. q.hart) (sym k.key) ∙ d.alike.hart_is;
       word_is = sym d.alike.word ∙ k.word;
+      hit_is = k.hit;
       result_is = k.result;
       joint = λ w.
           let q = finished w p in

@@ -1,5 +1,5 @@
 -- The last steps of a cycle: result, execution, retirement, dispatch, units.
-use Rattle.std.proofs.Common.{◌≡◌, ◌≢◌, ◌<◌, ◌==◌, ◌&&◌, ◌||◌, ◌+◌, ◌++◌, ℕ, Bool, true, false, cond, not, List, [], ◌∷◌, map, filter, drop, Option, Some, None, refl, sym, ap, ◌∙◌, subst, arith}
+use Rattle.std.proofs.Common.{◌≡◌, ◌<◌, ◌==◌, ◌&&◌, ◌||◌, ◌++◌, ℕ, Bool, true, false, cond, not, List, [], ◌∷◌, map, drop, Option, Some, None, refl, sym, ap, ◌∙◌, subst, arith}
 use Rattle.std.specs.Prelude.{find, is_some, IsSome, IfSome}
 use Rattle.std.specs.Option.{option_map}
 use Rattle.std.proofs.lemmas.Bool.{eqb-true, ne_eqb}
@@ -10,7 +10,7 @@ use Rattle.xif_drive.specs.Scripts.{delay_of}
 use Rattle.cycle_spec.specs.declared.choices.Executed.{Executed}
 use Rattle.cycle_spec.specs.declared.entry.Entry.{Entry}
 use Rattle.cycle_spec.specs.declared.use_of.Use.{Use}
-use Rattle.cycle_spec.specs.Flight.{is_unknown, is_unknown_kind, is_open, holds_id, with_result, with_outcome}
+use Rattle.cycle_spec.specs.Flight.{is_unknown, is_unknown_kind, holds_id, with_result, with_outcome}
 use Rattle.cycle_spec.specs.Core.{execute_step, retire_step, entry_at, with_dispatch}
 use Rattle.cycle_spec.specs.Engine.{has_start, is_past_ready, is_due, offered_by, use_or, with_end, ended}
 use Rattle.cycle_lists.specs.Lists.{Each, Pairs}
@@ -21,10 +21,10 @@ use Rattle.cycle_lists.proofs.Places.{first-at}
 use Rattle.cycle_paired.specs.Paired.{live_entries, live_uses, Match, IsEntry, Behind, IsUse, Older, open_word, Offers, HasResult}
 use Rattle.cycle_paired.proofs.Facts.{Joint, open_word-map, only}
 use Rattle.cycle_paired.proofs.Carrying.{Carries}
-use Rattle.cycle_paired.proofs.Finishing.{Finished, finishing}
-use Rattle.cycle_paired.proofs.Executing.{Exec, Execs, executing}
+use Rattle.cycle_paired.proofs.Finishing.{finishing}
+use Rattle.cycle_paired.proofs.Executing.{Execs, executing}
 use Rattle.cycle_paired.proofs.Applying.{AllReadied, all-below, all-uses, all-older, all-match, all-offers, all-results}
-use Rattle.cycle_paired.proofs.Ending.{HeadDone, retiring, open_word-rest, Dispatched, dispatching, open_word-push}
+use Rattle.cycle_paired.proofs.Ending.{HeadDone, retiring, open_word-rest, dispatching, open_word-push}
 use Rattle.cycle_paired.proofs.Deciding.{Decided}
 
 -- where a cycle has got to after its commit, with what executes, what retires, and the start of the
@@ -61,6 +61,7 @@ carried-at None delays cycle us u h e =
       start = refl;
       key = refl;
       word = refl;
+      hit = refl;
       result = refl;
       ready = past-some (delay_of delays u.order) cycle u.ready (and-right (not u.finished) (is_past_ready (delay_of delays u.order) cycle u.ready) f.passes);
       unfinished = not-in u.finished (and-left (not u.finished) (is_past_ready (delay_of delays u.order) cycle u.ready) f.passes);
@@ -69,7 +70,7 @@ carried-at (Some s) delays cycle us u h e =
     let f = first-at (has_start s) us u e in
     let q : u.start ≡ s = eqb-true u.start s f.passes in
     let k = Each-at (HasResult s) us f.older u f.younger f.here h in
-    record { front = f.older; carried = u; back = f.younger; here = f.here; start = refl; key = refl; word = refl; result = refl; ready = k.ready q; unfinished = k.unfinished q }
+    record { front = f.older; carried = u; back = f.younger; here = f.here; start = refl; key = refl; word = refl; hit = refl; result = refl; ready = k.ready q; unfinished = k.unfinished q }
 
 -- the only use of its start is the carried one
 results-of : (u : Use) (us : List Use) (k : Carries u us) → Pairs Older us → Each (HasResult u.start) us
@@ -79,10 +80,11 @@ results-of u us k pairs =
     subst (Each (HasResult u.start)) (sym k.here)
     (Each-append (HasResult u.start) k.front (v ∷ k.back)
     (Each-from (λ x. Older x v) (HasResult u.start) k.front
-    (λ y o. record { ready = λ q. absurd (let l = o.rises in let s = k.start in omega arith); unfinished = λ q. absurd (let l = o.rises in let s = k.start in omega arith) }) (Pairs-older Older k.front v k.back pairs'))
-    (record { ready = λ q. k.ready; unfinished = λ q. k.unfinished },
-    Each-from (Older v) (HasResult u.start) k.back
-    (λ y o. record { ready = λ q. absurd (let l = o.rises in let s = k.start in omega arith); unfinished = λ q. absurd (let l = o.rises in let s = k.start in omega arith) }) (Pairs-younger Older k.front v k.back pairs')))
+    (λ y o. record { ready = λ q. absurd (let l = o.rises in let s = k.start in omega arith); unfinished = λ q. absurd (let l = o.rises in let s = k.start in omega arith) }) (Pairs-older Older k.front v k.back pairs')) (
+      record { ready = λ q. k.ready; unfinished = λ q. k.unfinished },
+      Each-from (Older v) (HasResult u.start) k.back
+          (λ y o. record { ready = λ q. absurd (let l = o.rises in let s = k.start in omega arith); unfinished = λ q. absurd (let l = o.rises in let s = k.start in omega arith) }) (Pairs-younger Older k.front v k.back pairs'),
+    ))
 
 -- ---- the result
 

@@ -17,3 +17,8 @@ pub mod Deciding
 pub mod Lasting
 pub mod Cycling
 pub mod Same
+pub mod Closing
+pub mod Always
+pub mod Fixed
+pub mod Agreeing
+pub mod Stopping

@@ -1,16 +1,15 @@
 -- Live entries and their uses, one to one.
-use Rattle.std.proofs.Common.{◌≡◌, ◌≢◌, ◌==◌, ◌&&◌, ◌++◌, ℕ, Bool, true, false, cond, not, List, [], ◌∷◌, map, filter, Option, Some, None, refl, sym, ap, ◌∙◌, subst, arith}
-use Rattle.std.proofs.lemmas.Bool.{eqb-true, eqb-false, eq-eqb, ne_eqb}
-use Rattle.xif_base.specs.declared.params.Key.{Key}
+use Rattle.std.proofs.Common.{◌≡◌, ◌≢◌, ◌==◌, ◌&&◌, ◌++◌, ℕ, Bool, true, false, List, [], ◌∷◌, map, Some, refl, sym, ap, ◌∙◌, subst}
+use Rattle.std.proofs.lemmas.Bool.{eqb-true, eq-eqb}
 use Rattle.cycle_spec.specs.declared.entry.Entry.{Entry}
 use Rattle.cycle_spec.specs.declared.use_of.Use.{Use}
 use Rattle.cycle_spec.specs.Engine.{has_key, latest}
 use Rattle.cycle_lists.specs.Lists.{Each, Pairs}
-use Rattle.cycle_lists.proofs.Tests.{and-false, and-left, and-right, not-both, false-or}
-use Rattle.cycle_lists.proofs.Every.{Each-front, Each-back, Each-from, Each-both, Each-at, Each-here, Each-passed, Pairs-younger, Pairs-older}
+use Rattle.cycle_lists.proofs.Tests.{and-left, and-right, false-or}
+use Rattle.cycle_lists.proofs.Every.{Each-from, Each-at, Each-passed, Pairs-younger}
 use Rattle.cycle_lists.proofs.Filters.{filter-at, unfilter}
 use Rattle.cycle_lists.proofs.Places.{last-at, map-at}
-use Rattle.cycle_paired.specs.Paired.{is_live, live_entries, is_live_use, live_uses, Alike, Match, IsUse, Older}
+use Rattle.cycle_paired.specs.Paired.{is_live, live_entries, is_live_use, live_uses, Alike, Match, Older}
 use Rattle.cycle_paired.proofs.Facts.{other-starts}
 
 pub Match-append : (hart : ℕ) (xs ys : List Entry) (vs ws : List Use) → Match hart xs vs → Match hart ys ws → Match hart (xs ++ ys) (vs ++ ws)

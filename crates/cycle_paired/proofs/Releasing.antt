@@ -1,28 +1,28 @@
 -- A release, on both sides.
-use Rattle.std.proofs.Common.{◌≡◌, ◌≢◌, ◌<◌, ◌≤◌, ◌==◌, ◌&&◌, ◌||◌, ◌++◌, ℕ, Bool, true, false, cond, not, List, [], ◌∷◌, map, filter, Option, Some, None, refl, sym, ap, ◌∙◌, subst, arith}
-use Rattle.std.specs.Prelude.{nat_le, is_some, IsSome}
-use Rattle.std.proofs.lemmas.Bool.{eqb-true, eq-eqb}
+use Rattle.std.proofs.Common.{◌≡◌, ◌≢◌, ◌<◌, ◌≤◌, ◌==◌, ◌&&◌, ◌||◌, ◌++◌, ℕ, Bool, true, false, cond, not, List, ◌∷◌, map, Option, Some, refl, sym, ap, ◌∙◌, subst, arith}
+use Rattle.std.specs.Prelude.{nat_le, is_some}
+use Rattle.std.proofs.lemmas.Bool.{eq-eqb}
 use Rattle.std.proofs.lemmas.List.{map-append}
 use Rattle.xif_session.specs.declared.fact.Decision.{Decision}
 use Rattle.xif_session.specs.declared.fact.Decision.TheVariants.{Undecided, Released, Killed}
-use Rattle.xif_session.specs.Facts.{is_accepted as is_response_accepted, is_released, is_killed, is_undecided as is_decision_open, is_covered, verdict_of, decision_after}
+use Rattle.xif_session.specs.Facts.{is_accepted as is_response_accepted, is_released, is_killed, is_undecided as is_decision_open, verdict_of, decision_after}
 use Rattle.cycle_spec.specs.declared.entry.Entry.{Entry}
 use Rattle.cycle_spec.specs.declared.entry.EntryKind.{EntryKind}
 use Rattle.cycle_spec.specs.declared.entry.EntryKind.TheVariants.{Local, Unknown, Nowhere}
 use Rattle.cycle_spec.specs.declared.use_of.Use.{Use}
-use Rattle.cycle_spec.specs.Flight.{is_unknown, is_open, is_stopping, is_safe, is_safe_kind, is_undecided, with_release}
+use Rattle.cycle_spec.specs.Flight.{is_stopping, is_safe, is_safe_kind, is_undecided, with_release}
 use Rattle.cycle_spec.specs.Engine.{latest, with_decision, decided_by}
 use Rattle.cycle_lists.specs.Lists.{Each, Pairs}
 use Rattle.cycle_lists.specs.Order.{Before}
 use Rattle.cycle_lists.proofs.Tests.{and-left, and-right, and-false, or-left, or-true, or-cases, not-both, false-or, not-in, le-in, le-out, le-above}
-use Rattle.cycle_lists.proofs.Every.{each, Each-front, Each-back, Each-append, Each-from, Each-both, Each-map, Each-filter, Each-passed, Pairs-map1, Pairs-both, Pairs-older, Pairs-younger}
+use Rattle.cycle_lists.proofs.Every.{each, Each-front, Each-append, Each-from, Each-both, Each-map, Each-filter, Each-passed, Pairs-map1, Pairs-both, Pairs-older, Pairs-younger}
 use Rattle.cycle_lists.proofs.Filters.{filter-at, filter-map}
 use Rattle.cycle_lists.proofs.Order.{mapped, leaves-release}
-use Rattle.cycle_paired.specs.Paired.{is_live, live_entries, is_live_use, live_uses, decision_of, Alike, Match, IsEntry, Behind, IsReady, IsUse, Older}
-use Rattle.cycle_paired.proofs.Facts.{Joint, accepted-some, live-unknown, safe-accepted, none-refused}
+use Rattle.cycle_paired.specs.Paired.{is_live, live_entries, is_live_use, live_uses, decision_of, Alike, Match, IsEntry, Behind, IsUse, Older}
+use Rattle.cycle_paired.proofs.Facts.{Joint, accepted-some, live-unknown, safe-accepted}
 use Rattle.cycle_paired.proofs.Matching.{Match-append, Match-map, Found, found}
 use Rattle.cycle_paired.proofs.Carrying.{older-map, below-map, leaves-decision}
-use Rattle.cycle_paired.proofs.Growing.{Grown, AllGrown, GrownAt, grown-at, Each-grown, OnlyOpen, safe-grown}
+use Rattle.cycle_paired.proofs.Growing.{AllGrown, grown-at, Each-grown, OnlyOpen, safe-grown}
 
 -- ---- decisions
 
@@ -59,6 +59,7 @@ entry-released s e ok = record {
   unsent = ok.unsent;
   stores = ok.stores;
   stops = ok.stops;
+  refused = ok.refused;
 }
 
 -- what is older than the released one is safe

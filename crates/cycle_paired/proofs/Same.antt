@@ -1,6 +1,6 @@
 -- The steps of a cycle, as the definitions and as the lemmas have them.
-use Rattle.std.proofs.Common.{◌≡◌, ◌&&◌, ◌||◌, ℕ, Bool, true, false, cond, List, [], ◌∷◌, map, Option, Some, None, refl, sym, ap, ◌∙◌}
-use Rattle.std.specs.Prelude.{find, is_some, IfSome}
+use Rattle.std.proofs.Common.{◌≡◌, ◌&&◌, ℕ, Bool, true, false, cond, List, Option, Some, None, refl, ap, ◌∙◌}
+use Rattle.std.specs.Prelude.{find, IfSome}
 use Rattle.rv32_table.specs.Instr.{rd_field}
 use Rattle.inorder_machine.specs.declared.line.Write.{Write}
 use Rattle.inorder_machine.specs.Units.{unit_write}
@@ -12,8 +12,7 @@ use Rattle.cycle_spec.specs.declared.choices.Choices.{Choices}
 use Rattle.cycle_spec.specs.declared.choices.Presented.{Presented}
 use Rattle.cycle_spec.specs.declared.entry.Entry.{Entry}
 use Rattle.cycle_spec.specs.declared.turn.Transactions.{Transactions}
-use Rattle.cycle_spec.specs.declared.use_of.Use.{Use}
-use Rattle.cycle_spec.specs.Flight.{holds_id, with_response, with_result}
+use Rattle.cycle_spec.specs.Flight.{holds_id}
 use Rattle.cycle_spec.specs.Turns.{transactions_after}
 use Rattle.cycle_spec.specs.State.{Engine}
 use Rattle.cycle_spec.specs.Core.{response_on_offer, response_step, sent_on_present, sent_step, release_step, cut_step, drain_step, result_for, result_step, execute_step, retire_step, settled_entries}

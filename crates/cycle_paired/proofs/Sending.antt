@@ -1,13 +1,12 @@
 -- The registers of an instruction, on both sides.
-use Rattle.std.proofs.Common.{◌≡◌, ◌≢◌, ◌<◌, ◌==◌, ◌&&◌, ◌||◌, ◌++◌, ℕ, Bool, true, false, cond, not, List, [], ◌∷◌, map, filter, Option, Some, None, refl, sym, ap, ◌∙◌, subst, arith}
-use Rattle.std.specs.Prelude.{is_some, IsSome}
+use Rattle.std.proofs.Common.{◌≡◌, ◌≢◌, ◌&&◌, ◌||◌, ◌++◌, ℕ, Bool, true, false, cond, not, List, [], ◌∷◌, map, Option, Some, None, refl, sym, ap, ◌∙◌, subst}
 use Rattle.std.proofs.lemmas.Bool.{eq-eqb, ne_eqb}
 use Rattle.std.proofs.lemmas.List.{map-append}
 use Rattle.cycle_spec.specs.declared.entry.Entry.{Entry}
 use Rattle.cycle_spec.specs.declared.entry.EntryKind.{EntryKind}
 use Rattle.cycle_spec.specs.declared.entry.EntryKind.TheVariants.{Local, Unknown, Nowhere}
 use Rattle.cycle_spec.specs.declared.use_of.Use.{Use}
-use Rattle.cycle_spec.specs.Flight.{is_unknown, is_open, is_safe, is_safe_kind, is_stopping, reads_registers, with_sent}
+use Rattle.cycle_spec.specs.Flight.{is_open, is_safe_kind, is_stopping, reads_registers, with_sent}
 use Rattle.cycle_spec.specs.Engine.{latest, with_operands, given_to}
 use Rattle.cycle_lists.specs.Lists.{Each, Pairs}
 use Rattle.cycle_lists.specs.Order.{Before}
@@ -16,9 +15,9 @@ use Rattle.cycle_lists.proofs.Every.{Each-from, Each-map, Each-here, Each-replac
 use Rattle.cycle_lists.proofs.Filters.{filter-at}
 use Rattle.cycle_lists.proofs.Places.{map-at}
 use Rattle.cycle_lists.proofs.Order.{mapped, leaves-sent}
-use Rattle.cycle_paired.specs.Paired.{is_live, live_entries, is_live_use, live_uses, Alike, Match, IsEntry, Behind, IsReady, IsUse, Older}
+use Rattle.cycle_paired.specs.Paired.{is_live, live_entries, is_live_use, live_uses, Alike, Match, IsEntry, Behind, IsUse, Older}
 use Rattle.cycle_paired.proofs.Facts.{Joint, live-closed, live_use-answered, other-numbers}
-use Rattle.cycle_paired.proofs.Matching.{Match-append, Found, found, change-use}
+use Rattle.cycle_paired.proofs.Matching.{Match-append, found, change-use}
 use Rattle.cycle_paired.proofs.Carrying.{older-map, below-map, leaves-operands}
 use Rattle.cycle_paired.proofs.Answering.{Offered}
 
@@ -65,6 +64,7 @@ entry-sent e ok n = record {
   unsent = λ h. absurd (not-both (is_open e) n h);
   stores = ok.stores;
   stops = ok.stops;
+  refused = ok.refused;
 }
 
 use-given : (lanes : List ℕ) (answered : ℕ → Bool) (u : Use) → IsUse answered u → answered u.start ≡ true → IsUse answered (given lanes u)
