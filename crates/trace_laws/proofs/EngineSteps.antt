@@ -20,7 +20,7 @@ use Rattle.cycle_spec.specs.declared.use_of.Use.{Use}
 use Rattle.cycle_spec.specs.Engine.{has_key, has_start, latest, register_read_of, has_operands, is_complete, is_next, with_ready, ready_uses, ready_in_harts, outcome_of, new_use, start_step, with_answer, with_operands, given_to, lanes_on, with_decision, decide_step, decided_by, with_end}
 use Rattle.cycle_spec.specs.Engine as engine
 use Rattle.cycle_lists.specs.Lists.{Each, Pairs}
-use Rattle.cycle_lists.proofs.Tests.{or-true, or-false, or-left, false-or}
+use Rattle.cycle_lists.proofs.Tests.{or-cases, or-true, or-false, or-left, false-or}
 use Rattle.cycle_lists.proofs.Every.{Each-from, Each-map, Each-push, Each-at}
 use Rattle.cycle_lists.proofs.Places.{any-at}
 use Rattle.trace_laws.proofs.Apart.{Apart, named-apart, answered-apart, given-apart, decided-apart, ended-apart}
@@ -68,6 +68,7 @@ moved F G harts u e t = record {
   given_after = t.given_after;
   within = t.within;
   computed = t.computed;
+  ended = t.ended;
   hart = t.hart;
 }
 
@@ -138,6 +139,7 @@ stage_started p b harts start v us q hart free s = record {
       given_after = λ h. cc;
       within = tt;
       computed = λ h. cc;
+      ended = λ h. cc;
       hart = hart;
     }
 
@@ -162,10 +164,11 @@ stage_started p b harts start v us q hart free s = record {
 -- ---- the issue handshake
 
 -- the use that is offered has no response yet
-pub record Offered (facts : Facts) (key : Key) (start : ℕ) : Type 0 where
+pub record Offered (facts : Facts) (key : Key) (start word : ℕ) : Type 0 where
   pub fact : Fact
   pub there : facts key ≡ Some fact
   pub start_is : fact.start ≡ start
+  pub word_is : fact.instr ≡ word
   pub response : fact.response ≡ None
 
 abbrev answer_with : Bool → Option Hit → (order : ℕ) → Use → Use
@@ -187,7 +190,7 @@ unanswered F b key q = ap (λ t. option_map (with_response t (response_on b)) (F
     same (Some f) = refl
 
 pub stage_answered : (F : Facts) (b : Bus) (harts start : ℕ) (v : Bool) (n : ℕ) (hit : Option Hit) (order s : ℕ) (us : List Use) (t : Bool)
-    → is_issued b ≡ t → (t ≡ true → Offered F (issue_key b) s) → (t ≡ true → response_on b ≡ answer hit)
+    → is_issued b ≡ t → (t ≡ true → Offered F (issue_key b) s b.issue_instr) → (t ≡ true → response_on b ≡ answer hit)
     → Stage F harts b start v n us → Stage (answered_on b F) harts b start v n (if t then map (with_answer s hit order) us else us)
 stage_answered F b harts start v n hit order s us false q off says st =
     stage_move F (answered_on b F) harts b start v v n us (λ key. some_map _ (F key)) (answered-apart n b F st.apart) (λ h. h)
@@ -208,6 +211,7 @@ stage_answered F b harts start v n hit order s us true q off says st =
       given_after = λ h. refl;
       within = no_flags t.flags t.response (none refl) t.given_after (answer hit);
       computed = λ h. absurd (not-none u.hit (no_hit t.response u.hit (none refl) t.answered) (t.computed h).accepted);
+      ended = t.ended;
       hart = t.hart;
     }
     told false u t k none = record {
@@ -222,6 +226,7 @@ stage_answered F b harts start v n hit order s us true q off says st =
       given_after = t.given_after;
       within = t.within;
       computed = t.computed;
+      ended = t.ended;
       hart = t.hart;
     }
 
@@ -285,6 +290,7 @@ stage_given F b harts start v n lanes us true q serves st =
           given_after = λ h. served.answered;
           within = served.within;
           computed = λ h. record { accepted = (t.computed h).accepted; released = (t.computed h).released; given = or-left (u.given || true) _ (or-true u.given) };
+          ended = t.ended;
           hart = t.hart;
         }
     told false u t k = record {
@@ -296,6 +302,7 @@ stage_given F b harts start v n lanes us true q serves st =
       given_after = t.given_after;
       within = t.within;
       computed = λ h. record { accepted = (t.computed h).accepted; released = (t.computed h).released; given = ap (λ x. x || (register_read_of u.hit == 0)) (or-false u.given) ∙ (t.computed h).given };
+      ended = t.ended;
       hart = t.hart;
     }
 
@@ -343,6 +350,7 @@ stage_decided F b harts start v n us true q effective e st =
       given_after = t.given_after;
       within = t.within;
       computed = λ h. record { accepted = (t.computed h).accepted; released = decided_released r b.commit_kill u.decision (t.computed h).released; given = (t.computed h).given };
+      ended = λ h. decided_released r b.commit_kill u.decision (t.ended h);
       hart = t.hart;
     }
 
@@ -368,8 +376,8 @@ stage_decided F b harts start v n us true q effective e st =
 abbrev ended_with : Bool → Use → Use
 ended_with r u = record u { finished = u.finished || r }
 
-told_ended : (F : Facts) (b : Bus) (harts : ℕ) (r : Bool) (u : Use) → Told F harts u → (is_taken b && same_key (result_key b) u.key) ≡ r → Told (ended_on b F) harts (ended_with r u)
-told_ended F b harts r u t k = record {
+told_ended : (F : Facts) (b : Bus) (harts : ℕ) (r : Bool) (u : Use) → Told F harts u → (is_taken b && same_key (result_key b) u.key) ≡ r → (r ≡ true → is_released u.decision ≡ true) → Told (ended_on b F) harts (ended_with r u)
+told_ended F b harts r u t k l = record {
   response = t.response;
   flags = t.flags;
   is_fact = ap (option_map (fact_end (is_taken b && same_key (result_key b) u.key))) t.is_fact ∙ ap (λ x. Some (fact_of (ended_with x u) t.response t.flags)) k;
@@ -378,6 +386,7 @@ told_ended F b harts r u t k = record {
   given_after = t.given_after;
   within = t.within;
   computed = λ h. record { accepted = (t.computed h).accepted; released = (t.computed h).released; given = (t.computed h).given };
+  ended = λ h. or-cases u.finished r (is_released u.decision ≡ true) h t.ended l;
   hart = t.hart;
 }
 
@@ -399,7 +408,7 @@ stage_ended F b harts start n us false q st =
     same key (Some f) = ap (λ t. Some (record f { finished = f.finished || (t && same_key (result_key b) key) })) q ∙ ap (λ x. Some (record f { finished = x })) (or-false f.finished)
 stage_ended F b harts start n us true q st =
     stage_map F (ended_on b F) harts b start b.result_valid (result_waits b) n (with_end start) us (λ u. refl) (λ u. refl) (λ key. some_map _ (F key)) (ended-apart n b F st.apart) (waits_valid b)
-    (λ u k. (told_ended F b harts (u.start == start) u k.0 (ap (λ x. x && same_key (result_key b) u.key) q ∙ test u k.0), λ h z. absurd (waits_untaken b h q))) st
+    (λ u k. (told_ended F b harts (u.start == start) u k.0 (ap (λ x. x && same_key (result_key b) u.key) q ∙ test u k.0) (λ z. (k.0.computed (k.1 valid (eqb-true u.start start z)).ready).released), λ h z. absurd (waits_untaken b h q))) st
   where
     valid : b.result_valid ≡ true
     valid = (both-true b.result_valid b.result_ready q).0
@@ -477,6 +486,7 @@ stage_ready F b harts start v n set cycle hart state us st = record {
             given_after = k.0.given_after;
             within = k.0.within;
             computed = λ h. record { accepted = x2.0; released = y1.0; given = y1.1 };
+            ended = k.0.ended;
             hart = k.0.hart;
           },
           λ h z. absurd (not_ready u.ready x3 (k.1 h z).ready),

@@ -7,13 +7,15 @@ use Rattle.std.specs.Option.{option_map_or}
 use Rattle.std.proofs.lemmas.Bool.{eqb-true, eqb-false}
 use Rattle.rv32_table.specs.Instr.{rd_field}
 use Rattle.xif_base.specs.declared.params.Key.{Key}
+use Rattle.xif_base.specs.declared.params.Params.{Params}
 use Rattle.xif_base.specs.declared.flags.ReadFlags.{ReadFlags}
 use Rattle.coproc_config.specs.declared.accept.Hit.{Hit}
 use Rattle.xif_signals.specs.declared.bus.Bus.{Bus}
+use Rattle.xif_signals.specs.declared.rule.Channel.TheVariants.{Issue}
 use Rattle.xif_session.specs.declared.fact.Response.{Response}
 use Rattle.xif_session.specs.declared.fact.Fact.{Fact}
 use Rattle.xif_session.specs.Facts.{Facts, Past, same_key, is_released, issue_key, result_key, issue_waits, result_waits}
-use Rattle.xif_session.specs.Rules.{HasOperands}
+use Rattle.xif_session.specs.Rules.{HasOperands, HasHart, HoldsI1, HoldsI2, HoldsG1Core}
 use Rattle.xif_session.proofs.Options.{same_some, key_is, key_same, no_true}
 use Rattle.cycle_spec.specs.declared.turn.Transaction.{Transaction}
 use Rattle.cycle_spec.specs.declared.use_of.Use.{Use}
@@ -65,6 +67,7 @@ pub record Told (facts : Facts) (harts : ℕ) (u : Use) : Type 0 where
   pub given_after : is_some flags ≡ true → is_some response ≡ true
   pub within : HasOperands response flags
   pub computed : is_some u.ready ≡ true → Computed u
+  pub ended : u.finished ≡ true → is_released u.decision ≡ true
   pub hart : u.key.hart < harts
 
 -- the result channel shows a use
@@ -95,6 +98,14 @@ pub record Stage (facts : Facts) (harts : ℕ) (b : Bus) (start : ℕ) (shows : 
   pub rises : Rises n us
   pub apart : Apart n facts
 
+-- ---- what the engine needs of a core in a cycle
+
+pub record Orderly (params : Params) (p : Past) (b : Bus) : Type 0 where
+  pub hart : HasHart params b Issue
+  pub i1 : HoldsI1 p b
+  pub i2 : HoldsI2 params p b
+  pub g1 : HoldsG1Core params b
+
 -- ---- what the engine keeps in every cycle
 
 -- the issue transaction that may go on
@@ -103,6 +114,7 @@ pub record Waits (t : Transaction) (p : Past) : Type 0 where
   pub fact : Fact
   pub there : p.facts (issue_key p.last) ≡ Some fact
   pub start : fact.start ≡ t.owner
+  pub word : fact.instr ≡ p.last.issue_instr
   pub response : fact.response ≡ None
 
 abbrev pub IssueTold : Option Transaction → Past → Type 0
