@@ -5,3 +5,5 @@ pub mod EngineSteps
 pub mod EngineCycle
 pub mod EngineRules
 pub mod EngineHalf
+pub mod CoreChosen
+pub mod CoreRules
