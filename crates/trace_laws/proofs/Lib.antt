@@ -7,3 +7,4 @@ pub mod EngineRules
 pub mod EngineHalf
 pub mod CoreChosen
 pub mod CoreRules
+pub mod CoreCommits
