@@ -8,3 +8,5 @@ pub mod EngineHalf
 pub mod CoreChosen
 pub mod CoreRules
 pub mod CoreCommits
+pub mod Linked
+pub mod Releases
