@@ -296,7 +296,7 @@ module _ (hart : ℕ) (m : Machines) (p : Past) (k : Paired hart m) (t : EngineT
       key : (x : Key) → x.hart ≡ hart → x.id ≡ e.id → ◌≡◌ {A = Key} (record { hart = hart; id = e.id }) x
       key x q r i = record { hart = sym q i; id = sym r i }
 
-  keeps_g2 : HoldsG2 p bus
+  pub keeps_g2 : HoldsG2 p bus
   keeps_g2 v = some_case ch.present (IsSomeAnd (named p bus (register_key bus)) (λ f. f.operands ≡ None)) v (λ x h.
       subst (λ key. IsSomeAnd (named p bus key) (λ f. f.operands ≡ None)) (sym (ap (λ o. record { hart = hart_if (is_some o) hart; id = presented_id o }) h))
       (by_split x m.core.params.split refl (subst (Presents m.core.params.split m.core.flight ch.offer) h c.present)))

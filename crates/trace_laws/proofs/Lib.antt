@@ -10,3 +10,4 @@ pub mod CoreRules
 pub mod CoreCommits
 pub mod Linked
 pub mod Releases
+pub mod Sessions
