@@ -11,3 +11,4 @@ pub mod CoreCommits
 pub mod Linked
 pub mod Releases
 pub mod Sessions
+pub mod Runs
