@@ -12,3 +12,4 @@ pub mod Linked
 pub mod Releases
 pub mod Sessions
 pub mod Runs
+pub mod Views
