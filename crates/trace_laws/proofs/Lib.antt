@@ -13,3 +13,4 @@ pub mod Releases
 pub mod Sessions
 pub mod Runs
 pub mod Views
+pub mod Paths
