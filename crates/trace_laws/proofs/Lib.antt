@@ -14,3 +14,4 @@ pub mod Sessions
 pub mod Runs
 pub mod Views
 pub mod Paths
+pub mod Stable

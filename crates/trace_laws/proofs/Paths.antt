@@ -59,7 +59,7 @@ Executing o e = IfSome o (λ x. e.seq ≡ x.entry.seq → Exec x.outcome e)
 exec-same : (o : Stepped) (e e' : Entry) → e'.kind ≡ e.kind → e'.done ≡ e.done → Exec o e → Exec o e'
 exec-same o e e' k d x = record { instr = x.instr; kind_is = k ∙ x.kind_is; not_done = d ∙ x.not_done; memory = x.memory; at_word = x.at_word; a = x.a; b = x.b; is_it = x.is_it }
 
-executing-same : (o : Option Executed) (e e' : Entry) → e'.seq ≡ e.seq → e'.kind ≡ e.kind → e'.done ≡ e.done → Executing o e → Executing o e'
+pub executing-same : (o : Option Executed) (e e' : Entry) → e'.seq ≡ e.seq → e'.kind ≡ e.kind → e'.done ≡ e.done → Executing o e → Executing o e'
 executing-same None e e' s k d x = tt
 executing-same (Some y) e e' s k d x = λ q. exec-same y.outcome e e' k d (x (sym s ∙ q))
 
@@ -99,7 +99,7 @@ heads-take (Some e) n (x ∷ xs) h = go n
     go (suc n) = h
 
 module _ (dual : Bool) (s n id : ℕ) (registers : List ℕ) (start : List Entry) (retire : Option Entry) where
-  path-map : (Q R P : Entry → Type 0) (f : Entry → Entry) (es : List Entry) → Leaves f → Each P es → ((x : Entry) → Q x → P x → Steady dual f x × R (f x)) → Path dual s n id registers start retire Q es → Path dual s n id registers start retire R (map f es)
+  pub path-map : (Q R P : Entry → Type 0) (f : Entry → Entry) (es : List Entry) → Leaves f → Each P es → ((x : Entry) → Q x → P x → Steady dual f x × R (f x)) → Path dual s n id registers start retire Q es → Path dual s n id registers start retire R (map f es)
   path-map Q R P f es l ps k p =
       let both = Each-both Q P (λ x. Steady dual f x × R (f x)) es k p.facts ps in
       let steady = Each-from (λ x. Steady dual f x × R (f x)) (Steady dual f) es (λ x z. z.0) both in
@@ -110,10 +110,10 @@ module _ (dual : Bool) (s n id : ℕ) (registers : List ℕ) (start : List Entry
         head = heads-map dual retire f es steady p.head;
       }
 
-  path-weaker : (Q R : Entry → Type 0) (es : List Entry) → ((x : Entry) → Q x → R x) → Path dual s n id registers start retire Q es → Path dual s n id registers start retire R es
+  pub path-weaker : (Q R : Entry → Type 0) (es : List Entry) → ((x : Entry) → Q x → R x) → Path dual s n id registers start retire Q es → Path dual s n id registers start retire R es
   path-weaker Q R es k p = record { stays = p.stays; kept = p.kept; facts = Each-from Q R es k p.facts; head = p.head }
 
-  path-take : (Q : Entry → Type 0) (k : ℕ) (es : List Entry) → Path dual s n id registers start retire Q es → Path dual s n id registers start retire Q (take k es)
+  pub path-take : (Q : Entry → Type 0) (k : ℕ) (es : List Entry) → Path dual s n id registers start retire Q es → Path dual s n id registers start retire Q (take k es)
   path-take Q k es p = record {
     stays = stays-then dual s registers start registers es registers (take k es) p.stays (stays-take dual s k registers es);
     kept = record { pairs = Pairs-take Before k es p.kept.pairs; below = Each-take (λ e. e.seq < n) k es p.kept.below; free = Each-take _ k es p.kept.free };
@@ -122,7 +122,7 @@ module _ (dual : Bool) (s n id : ℕ) (registers : List ℕ) (start : List Entry
   }
 
 -- a change that leaves all of it
-plain : (dual : Bool) (f : Entry → Entry) (x : Entry) → (f x).kind ≡ x.kind → (f x).response ≡ x.response → (f x).word ≡ x.word → (f x).done ≡ x.done → (f x).write ≡ x.write → Steady dual f x
+pub plain : (dual : Bool) (f : Entry → Entry) (x : Entry) → (f x).kind ≡ x.kind → (f x).response ≡ x.response → (f x).word ≡ x.word → (f x).done ≡ x.done → (f x).write ≡ x.write → Steady dual f x
 plain dual f x k r w d t = record {
   may = λ n h. sym (same n) ∙ h;
   done = λ h. d ∙ h;
@@ -178,7 +178,7 @@ wrote-same dual x y k r w t h n registers c =
     subst (λ z. Within (may_write_kind dual y.kind y n) n registers z) (sym t)
     (subst (λ z. Within z n registers x.write) (sym (ap (λ a. may_write_kind dual a y n) k ∙ kind-same dual x.kind x y n r w)) (h n registers c))
 
-fit-same : (dual : Bool) (x y : Entry) → y.kind ≡ x.kind → y.response ≡ x.response → y.word ≡ x.word → y.done ≡ x.done → y.write ≡ x.write → Fit dual x → Fit dual y
+pub fit-same : (dual : Bool) (x y : Entry) → y.kind ≡ x.kind → y.response ≡ x.response → y.word ≡ x.word → y.done ≡ x.done → y.write ≡ x.write → Fit dual x → Fit dual y
 fit-same dual x y k r w d t f = record {
   even = λ a q h. ap (λ z. rd_field z % 2) w ∙ f.even a (sym r ∙ q) h;
   row = λ i q. ap decoded w ∙ f.row i (sym k ∙ q);
@@ -214,7 +214,7 @@ module _ (dual : Bool) (seq : ℕ) (b : Bus) (x : Entry) (i : is_issued b ≡ tr
           subst (λ r. may_write_word dual r (rd_field x.word) n ≡ true) (sym (none-there q))
           (written-may dual (response_on b) (rd_field x.word) n (λ f. let both = a i f in (both.0, ap (λ z. rd_field z % 2) (sym w) ∙ both.1)) h)
 
-  steady-answer : Steady dual (with_response seq (response_on b)) x
+  pub steady-answer : Steady dual (with_response seq (response_on b)) x
   steady-answer = record {
     may = λ n h. go (n == 0) n h;
     done = λ h. h;
@@ -226,7 +226,7 @@ module _ (dual : Bool) (seq : ℕ) (b : Bus) (x : Entry) (i : is_issued b ≡ tr
       go true n h = h
       go false n h = answer-kind x.kind n h
 
-  fit-answer : Fit dual x → Fit dual answered
+  pub fit-answer : Fit dual x → Fit dual answered
   fit-answer f = record {
     even = λ r q h. by (has_seq seq x) refl r q h;
     row = f.row;
@@ -239,7 +239,7 @@ module _ (dual : Bool) (seq : ℕ) (b : Bus) (x : Entry) (i : is_issued b ≡ tr
           let same : response_on b ≡ r = some-is (response_on b) r q in
           ap (λ w. rd_field w % 2) (sym (o (eqb-true x.seq seq z)).word) ∙ (a i (ap (λ y. has_flag y.writeback.0 1) same ∙ h)).1
 
-  finishing-answer : Finishing b x → Finishing b answered
+  pub finishing-answer : Finishing b x → Finishing b answered
   finishing-answer f t u e =
       let y = f t u e in
       record {
@@ -276,7 +276,7 @@ module _ (dual : Bool) (b : Bus) (y : Entry) (unknown : is_unknown y ≡ true) (
   done-not : x.done ≡ true → has_seq y.seq x ≡ false
   done-not d = false-or (has_seq y.seq x) (λ q. not-both y.done fin.undone (ap (λ z. z.done) (sym (own q)) ∙ d))
 
-  steady-result : Steady dual (with_result y.seq written) x
+  pub steady-result : Steady dual (with_result y.seq written) x
   steady-result = record {
     may = λ n h. sym (same n) ∙ h;
     done = λ h. or-left x.done (has_seq y.seq x) h;
@@ -287,7 +287,7 @@ module _ (dual : Bool) (b : Bus) (y : Entry) (unknown : is_unknown y ≡ true) (
       same : (n : ℕ) → may_write dual n ended ≡ may_write dual n x
       same n = ap (λ t. not (n == 0) && t) (kind-same dual x.kind x ended n refl refl)
 
-  fit-result : Fit dual x → Fit dual ended
+  pub fit-result : Fit dual x → Fit dual ended
   fit-result f = record { even = f.even; row = f.row; wrote = λ h. go (has_seq y.seq x) refl h }
     where
       go : (t : Bool) → has_seq y.seq x ≡ t → (x.done || t) ≡ true → Wrote dual ended
@@ -313,7 +313,7 @@ module _ (dual : Bool) (seq : ℕ) (o : Stepped) (x : Entry) (ex : x.seq ≡ seq
   done-never : x.done ≡ true → has_seq seq x ≡ false
   done-never d = false-or (has_seq seq x) (λ q. not-both x.done (ex (eqb-true x.seq seq q)).not_done d)
 
-  steady-outcome : Steady dual (with_outcome seq o) x
+  pub steady-outcome : Steady dual (with_outcome seq o) x
   steady-outcome = go o
     where
       go : (p : Stepped) → Steady dual (with_outcome seq p) x
@@ -325,7 +325,7 @@ module _ (dual : Bool) (seq : ℕ) (o : Stepped) (x : Entry) (ex : x.seq ≡ seq
         same = λ h n. ap (λ t. not (n == 0) && t) (kind-same dual x.kind x (with_outcome seq (Retired line) x) n refl refl);
       }
 
-  fit-outcome : Fit dual x → Fit dual (with_outcome seq o x)
+  pub fit-outcome : Fit dual x → Fit dual (with_outcome seq o x)
   fit-outcome f = go o refl
     where
       go : (p : Stepped) → o ≡ p → Fit dual (with_outcome seq p x)
