@@ -15,3 +15,4 @@ pub mod Runs
 pub mod Views
 pub mod Paths
 pub mod Stable
+pub mod Flags
