@@ -53,7 +53,7 @@ due_ready : (delay cycle : ℕ) (ready : Option ℕ) → is_past_ready delay cyc
 due_ready delay cycle None h = cc
 due_ready delay cycle (Some r) h = refl
 
-offer_by : (delays : List ℕ) (cycle : ℕ) (us : List Use) (p : Past) (u : Use) (waiting : Option ℕ) → ResultTold waiting us p → offered_by waiting delays cycle us ≡ Some u → Offer us u
+pub offer_by : (delays : List ℕ) (cycle : ℕ) (us : List Use) (p : Past) (u : Use) (waiting : Option ℕ) → ResultTold waiting us p → offered_by waiting delays cycle us ≡ Some u → Offer us u
 offer_by delays cycle us p u None r q =
     let f = first-at (is_due delays cycle) us u q in
     let both = both-true (not u.finished) _ f.passes in

@@ -16,3 +16,5 @@ pub mod Views
 pub mod Paths
 pub mod Stable
 pub mod Flags
+pub mod Words
+pub mod Presents
