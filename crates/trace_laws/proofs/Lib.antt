@@ -18,3 +18,5 @@ pub mod Stable
 pub mod Flags
 pub mod Words
 pub mod Presents
+pub mod Shown
+pub mod ShownAfter

@@ -196,3 +196,11 @@ module _ (w : Core) (ch : Choices) (b : Bus) (s : ℕ) (k : Known w ch b) where
             settled.stays (stays-push dual s (registers_behind ch.retire w.registers) (settled_entries ch b w.flight) (next_entry answer w ch) apart);
         facts = Each-push (Fit dual) (settled_entries ch b w.flight) (next_entry answer w ch) settled.facts (fit-new answer);
       }
+
+  -- what is done goes on to write what it may write
+  pub fitted : (answer : ℕ → ℕ → ℕ) → Each (Fit dual) (with_dispatch (dispatch_of answer w ch) (settled_entries ch b w.flight))
+  fitted answer = go ch.dispatch
+    where
+      go : (t : Bool) → Each (Fit dual) (with_dispatch (if t then Some (next_entry answer w ch) else None) (settled_entries ch b w.flight))
+      go false = settled.facts
+      go true = Each-push (Fit dual) (settled_entries ch b w.flight) (next_entry answer w ch) settled.facts (fit-new answer)
