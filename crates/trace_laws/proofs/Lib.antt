@@ -10,8 +10,6 @@ pub mod CoreRules
 pub mod CoreCommits
 pub mod Linked
 pub mod Releases
-pub mod Sessions
-pub mod Runs
 pub mod Views
 pub mod Paths
 pub mod Stable
@@ -20,3 +18,5 @@ pub mod Words
 pub mod Presents
 pub mod Shown
 pub mod ShownAfter
+pub mod Sessions
+pub mod Runs

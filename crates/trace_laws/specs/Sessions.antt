@@ -1,9 +1,9 @@
 -- The sessions of core and engine, by their buses, and the rules that are said of them.
-use Rattle.std.specs.Prelude.{◌≡◌, ◌<◌, ℕ, Bool, true, false, Option, None, List, [], ◌∷◌}
+use Rattle.std.specs.Prelude.{◌≡◌, ◌<◌, ℕ, Bool, true, false, Option, None, List, [], ◌∷◌, length}
 use Rattle.xif_base.specs.declared.params.Params.{Params}
 use Rattle.xif_signals.specs.declared.bus.Bus.{Bus}
 use Rattle.xif_signals.specs.declared.rule.Rule.{Rule}
-use Rattle.xif_signals.specs.declared.rule.Rule.TheVariants.{G3, G4}
+use Rattle.xif_signals.specs.declared.rule.Rule.TheVariants.{G4}
 use Rattle.xif_session.specs.Facts.{Past}
 use Rattle.xif_session.specs.Legal.{Holds}
 use Rattle.cycle_spec.specs.State.{Core}
@@ -34,7 +34,7 @@ pub data Session (setup : Setup) : (hart : ℕ) → Machines → List Bus → Ty
       : (hart other : ℕ) (m : Machines) (session : List Bus) (w : Core)
       → Session setup hart m session → other < setup.params.num_harts
       → m.core.flight ≡ [] → m.engine.issue_turns.waiting ≡ None
-      → w.flight ≡ [] → w.params ≡ m.core.params
+      → w.flight ≡ [] → length w.registers ≡ 32 → w.params ≡ m.core.params
       → Session setup other (record m { core = w }) session
 
 -- ---- the rules but for some
@@ -42,8 +42,8 @@ pub data Session (setup : Setup) : (hart : ℕ) → Machines → List Bus → Ty
 abbrev pub HoldsBut : (Rule → Bool) → Params → Past → Bus → Type 0
 HoldsBut left_out params p b = (rule : Rule) → left_out rule ≡ false → Holds params rule p b
 
--- the rules that the operands are stable
-abbrev pub is_stability : Rule → Bool
-is_stability G3 = true
-is_stability G4 = true
-is_stability _ = false
+-- Which rule is left out where register pairs may be read (X_DUALREAD): that each half that was
+-- valid is stable.
+abbrev pub is_stable_halves : Rule → Bool
+is_stable_halves G4 = true
+is_stable_halves _ = false

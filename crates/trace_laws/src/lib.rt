@@ -8,4 +8,4 @@
 
 mod laws;
 
-pub use laws::engine_law;
+pub use laws::{engine_law, run_law, session_law};
