@@ -38,11 +38,11 @@ pub fn session_law()
 
 /// So is each run, for every predictor: up to a stop, or to the end of its budget and of the drain
 /// behind it.
-pub fn run_law()
-    ensures legal { (P : Type 0) (meaning : Meaning P) (setup : Setup) (predictor : P) →
+pub fn run_law<P>()
+    ensures legal { (meaning : Meaning P) (setup : Setup) (predictor : P) →
         IsInRange setup.params → setup.params.dual_read ≡ 0 →
         IsLegalSession setup.params (progress_of meaning setup predictor).buses }
-    ensures pairs { (P : Type 0) (meaning : Meaning P) (setup : Setup) (predictor : P) →
+    ensures pairs { (meaning : Meaning P) (setup : Setup) (predictor : P) →
         IsInRange setup.params →
         EachCycle (HoldsBut is_stable_halves setup.params)
         (progress_of meaning setup predictor).buses }
