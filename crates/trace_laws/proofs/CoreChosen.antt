@@ -1,8 +1,8 @@
 -- What the core chooses for the commit channel, in facts: a kill is for the oldest use that waits
 -- for a decision.
-use Rattle.std.proofs.Common.{◌≡◌, ◌≢◌, ◌==◌, ◌&&◌, ◌||◌, ◌+◌, ◌++◌, ℕ, zero, suc, Bool, true, false, if◌then◌else◌, not, List, [], ◌∷◌, take, drop, length, Option, Some, None, refl, sym, ap, ◌∙◌, subst, arith}
-use Rattle.std.specs.Prelude.{find, is_some, IfSome, IsSome}
-use Rattle.std.specs.List.{list_any, last_or}
+use Rattle.std.proofs.Common.{◌≡◌, ◌≢◌, ◌==◌, ◌&&◌, ◌||◌, ◌+◌, ◌++◌, ℕ, suc, Bool, true, false, if◌then◌else◌, not, List, [], ◌∷◌, take, drop, length, Option, Some, None, refl, sym, ap, ◌∙◌, subst, arith}
+use Rattle.std.specs.Prelude.{find, is_some, IfSome}
+use Rattle.std.specs.List.{list_any}
 use Rattle.std.specs.Option.{option_or, option_and_then}
 use Rattle.std.proofs.lemmas.Bool.{eq-eqb, ne_eqb}
 use Rattle.std.proofs.lemmas.List.{take-append-drop}
@@ -23,18 +23,18 @@ use Rattle.cycle_spec.specs.declared.entry.Entry.{Entry}
 use Rattle.cycle_spec.specs.declared.entry.EntryKind.{EntryKind}
 use Rattle.cycle_spec.specs.declared.entry.EntryKind.TheVariants.{Local, Unknown, Nowhere}
 use Rattle.cycle_spec.specs.declared.log.Cut.{Cut}
-use Rattle.cycle_spec.specs.Flight.{is_row, is_control, is_control_row, is_store, is_store_row, is_unknown, is_unknown_kind, is_open, is_pending, is_undecided, is_stopping, older_than, count_through, may_execute, may_execute_kind, are_sources_here, is_held_back, ready_behind, ready_oldest, youngest_released}
+use Rattle.cycle_spec.specs.Flight.{is_row, is_control, is_control_row, is_store_row, is_unknown, is_unknown_kind, is_open, is_pending, is_stopping, older_than, count_through, may_execute, may_execute_kind, are_sources_here, is_held_back, ready_behind, ready_oldest, youngest_released}
 use Rattle.cycle_spec.specs.State.{Core}
-use Rattle.cycle_spec.specs.Choices.{stop_at, retirement, execution, executed_entry, executed_kind, outcome_of, is_any_hit, store_cut, transfer_cut, control_cut, offer_in, kill_among, choices_with, choices_running, choices_stopping, choices_by, choices_draining, choices_drain_begins, choices_in, choices, stay_with}
+use Rattle.cycle_spec.specs.Choices.{stop_at, retirement, execution, executed_entry, executed_kind, outcome_of, is_any_hit, store_cut, transfer_cut, control_cut, offer_in, kill_among, choices_with, choices_running, choices_stopping, choices_by, choices_in, choices, stay_with}
 use Rattle.cycle_spec.specs.Core.{cut_step, drain_step}
 use Rattle.cycle_lists.specs.Lists.{Each, Pairs, FirstAt}
 use Rattle.cycle_lists.specs.Order.{Before}
 use Rattle.cycle_lists.proofs.Tests.{and-left, and-right, and-false, not-both, not-in, false-or, some-is}
-use Rattle.cycle_lists.proofs.Every.{Each-from, Each-both, Each-append, Each-front, Each-at, Pairs-older}
+use Rattle.cycle_lists.proofs.Every.{Each-both, Each-append, Each-front, Each-at, Pairs-older}
 use Rattle.cycle_lists.proofs.Places.{any-none, last-found}
 use Rattle.cycle_paired.specs.Paired.{IsEntry, Behind}
 use Rattle.cycle_paired.proofs.Facts.{other-numbers, safe-accepted}
-use Rattle.cycle_paired.proofs.Choosing.{Facts, CertainAt, Way, Quiet, Releases, Cuts, Presents, Sound, sound}
+use Rattle.cycle_paired.proofs.Choosing.{Facts, CertainAt, Way, Quiet, Releases, Cuts, Presents, sound}
 
 -- a use that was accepted before a released one is released
 abbrev pub InOrder : Entry → Entry → Type 0

@@ -1,16 +1,15 @@
 -- The commits of the core in a cycle: each names a use that is undecided, and a kill the oldest one
 -- that was answered.
-use Rattle.std.proofs.Common.{◌≡◌, ◌<◌, ◌≤◌, ◌+◌, ◌++◌, ◌==◌, ◌&&◌, ◌||◌, not, ℕ, Bool, true, false, if◌then◌else◌, Option, Some, None, List, [], ◌∷◌, refl, sym, ap, ◌∙◌, subst, arith, append_assoc}
+use Rattle.std.proofs.Common.{◌≡◌, ◌<◌, ◌≤◌, ◌++◌, ◌&&◌, ◌||◌, not, ℕ, Bool, true, false, if◌then◌else◌, Option, Some, None, List, ◌∷◌, refl, sym, ap, ◌∙◌, subst, arith, append_assoc}
 use Rattle.std.specs.Prelude.{find, is_some, IsSomeAnd, IfSome}
 use Rattle.std.specs.Option.{option_or, option_and_then}
 use Rattle.std.proofs.lemmas.Bool.{eqb-true}
 use Rattle.xif_base.specs.declared.params.Key.{Key}
 use Rattle.xif_signals.specs.declared.bus.Bus.{Bus}
-use Rattle.xif_session.specs.declared.fact.Decision.{Decision}
-use Rattle.xif_session.specs.declared.fact.Decision.TheVariants.{Undecided, Released, Killed}
+use Rattle.xif_session.specs.declared.fact.Decision.TheVariants.{Undecided}
 use Rattle.xif_session.specs.declared.fact.Fact.{Fact}
 use Rattle.xif_session.specs.declared.fact.Response.{Response}
-use Rattle.xif_session.specs.Facts.{Past, is_killed, is_released, is_undecided, is_pending, is_accepted as is_response_accepted, issue_key, commit_key, is_start, starts_key, new_fact, named, undecided_start, effective_start, same_key}
+use Rattle.xif_session.specs.Facts.{Past, is_killed, is_released, is_undecided, is_pending, is_accepted as is_response_accepted, issue_key, commit_key, is_start, starts_key, new_fact, named, undecided_start, effective_start}
 use Rattle.xif_session.specs.Rules.{HoldsC1, HoldsC2, HoldsC3, NoneBefore}
 use Rattle.xif_session.proofs.Options.{same_some, both-true, no_true, key_is}
 use Rattle.cycle_spec.specs.declared.choices.Choices.{Choices}
@@ -29,8 +28,7 @@ use Rattle.cycle_lists.proofs.Places.{first-at, first-none}
 use Rattle.cycle_paired.specs.Paired.{is_live, live_entries, is_live_use, live_uses, Alike, Match, IsEntry, Older, Paired, decision_of}
 use Rattle.cycle_paired.proofs.Facts.{only}
 use Rattle.cycle_paired.proofs.Matching.{Match-uses, Found, found}
-use Rattle.cycle_paired.proofs.Choosing.{CertainAt}
-use Rattle.trace_laws.proofs.EngineTold.{fact_of, Told, EngineTold}
+use Rattle.trace_laws.proofs.EngineTold.{fact_of, EngineTold}
 use Rattle.trace_laws.proofs.EngineSteps.{named_other, named_new}
 use Rattle.trace_laws.proofs.CoreChosen.{IsCalm, Commits, Nothing, ARelease, AKill, Chosen}
 use Rattle.trace_laws.proofs.CoreRules as rules

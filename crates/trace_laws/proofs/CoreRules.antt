@@ -1,20 +1,15 @@
 -- The core keeps its rules in a cycle, beside the engine that it is paired with: its live entries
 -- are the engine's live uses, and those are what the buses say.
-use Rattle.std.proofs.Common.{◌≡◌, ◌<◌, ◌≤◌, ◌+◌, ◌++◌, ◌==◌, ◌&&◌, ◌||◌, not, ℕ, Bool, true, false, if◌then◌else◌, Option, Some, None, List, [], ◌∷◌, filter, refl, sym, ap, ◌∙◌, subst, arith}
-use Rattle.std.specs.Prelude.{find, is_some, IsSome, IsSomeAnd, IfSome}
-use Rattle.std.specs.List.{list_any}
-use Rattle.std.specs.Option.{option_map, option_map_or, option_or, option_and_then}
-use Rattle.std.proofs.lemmas.Bool.{eqb-true, eq-eqb}
+use Rattle.std.proofs.Common.{◌≡◌, ◌<◌, ◌++◌, ◌==◌, ◌&&◌, ◌||◌, not, ℕ, Bool, true, false, Option, Some, None, List, ◌∷◌, refl, sym, ap, ◌∙◌, subst, arith}
+use Rattle.std.specs.Prelude.{is_some, IsSomeAnd, IfSome}
 use Rattle.xif_base.specs.declared.params.Key.{Key}
-use Rattle.xif_base.specs.declared.params.Params.{Params}
 use Rattle.xif_base.specs.declared.flags.ReadFlags.{ReadFlags}
 use Rattle.xif_signals.specs.declared.bus.Bus.{Bus}
-use Rattle.xif_signals.specs.declared.bus.CpuOut.{CpuOut}
 use Rattle.xif_session.specs.declared.fact.Response.{Response}
 use Rattle.xif_session.specs.declared.fact.Decision.{Decision}
 use Rattle.xif_session.specs.declared.fact.Decision.TheVariants.{Undecided, Released, Killed}
 use Rattle.xif_session.specs.declared.fact.Fact.{Fact}
-use Rattle.xif_session.specs.Facts.{Facts, Past, same_key, has_killed, is_killed, is_released, is_undecided, is_running, is_held, is_in_flight, is_pending, issue_key, register_key, commit_key, issue_waits, issue_continues, is_start, starts_key, new_fact, named}
+use Rattle.xif_session.specs.Facts.{Facts, Past, same_key, has_killed, is_killed, is_released, is_undecided, is_in_flight, issue_key, register_key, issue_waits, issue_continues, is_start, starts_key, new_fact, named}
 use Rattle.xif_session.specs.Rules.{HoldsI1, HoldsI2, HoldsG1Core, HoldsG2}
 use Rattle.xif_session.proofs.Options.{same_some, both-true, and-true, no_true, not_in, key_is, key_same}
 use Rattle.cycle_spec.specs.declared.choices.Choices.{Choices}
@@ -24,24 +19,21 @@ use Rattle.cycle_spec.specs.declared.turn.Transaction.{Transaction}
 use Rattle.cycle_spec.specs.declared.use_of.Use.{Use}
 use Rattle.cycle_spec.specs.Flight.{is_open, is_unknown, is_waiting}
 use Rattle.cycle_spec.specs.Flight as flight
-use Rattle.cycle_spec.specs.State.{Core, Engine}
-use Rattle.cycle_spec.specs.Choices.{choices, kill_among, among}
-use Rattle.cycle_spec.specs.Core.{core_drive, cpu_out, id_in, word_in, presented_id}
-use Rattle.cycle_spec.specs.Engine.{has_key, has_start, latest, engine_drive, issue_start}
-use Rattle.cycle_spec.specs.Cycle.{Machines, hart_if, for_hart, cpu_at, cop_at, input_at, bus_at}
+use Rattle.cycle_spec.specs.Choices.{choices}
+use Rattle.cycle_spec.specs.Core.{id_in, word_in, presented_id}
+use Rattle.cycle_spec.specs.Engine.{has_key}
+use Rattle.cycle_spec.specs.Cycle.{Machines, hart_if, bus_at}
 use Rattle.cycle_lists.specs.Lists.{Each, Pairs, FirstAt}
 use Rattle.cycle_lists.specs.Order.{Before}
-use Rattle.cycle_lists.proofs.Tests.{and-left, and-right, not-both, not-in, false-or, true-or, or-cases}
-use Rattle.cycle_lists.proofs.Every.{Each-from, Each-both, Each-at, Each-append, Each-unfilter, Pairs-younger}
+use Rattle.cycle_lists.proofs.Tests.{and-left, and-right, not-both, not-in, false-or, or-cases}
+use Rattle.cycle_lists.proofs.Every.{Each-at, Each-unfilter}
 use Rattle.cycle_lists.proofs.Places.{any-at}
-use Rattle.cycle_paired.specs.Paired.{is_live, live_entries, is_live_use, live_uses, Alike, Match, IsEntry, Behind, Older, open_word, IsOffered, Offers, Paired, decision_of}
-use Rattle.cycle_paired.proofs.Facts.{open-unknown, open-dead, open_word-first, other-ids, waiting-live, waiting-accepted, live_use-answered}
+use Rattle.cycle_paired.specs.Paired.{is_live, live_entries, is_live_use, live_uses, Alike, Match, IsEntry, open_word, Offers, Paired}
+use Rattle.cycle_paired.proofs.Facts.{open-unknown, open-dead, open_word-first, other-ids, waiting-live}
 use Rattle.cycle_paired.proofs.Matching.{Match-uses, Found, found}
 use Rattle.cycle_paired.proofs.Choosing.{Presents}
-use Rattle.trace_laws.specs.Driven.{bus_beside}
-use Rattle.trace_laws.proofs.EngineTold.{fact_of, Told, Covers, Orderly, EngineTold, IssueTold}
-use Rattle.trace_laws.proofs.EngineSteps.{named_other, named_new, Offered}
-use Rattle.trace_laws.proofs.EngineCycle as turn
+use Rattle.trace_laws.proofs.EngineTold.{fact_of, Told, Orderly, EngineTold, IssueTold}
+use Rattle.trace_laws.proofs.EngineSteps.{named_other, named_new}
 use Rattle.trace_laws.proofs.CoreChosen.{Chosen}
 
 -- which starts had their issue handshake
@@ -139,10 +131,12 @@ flying profile f h e = go f.response h
 
     go : (r : Option Response) → is_in_flight profile (Some (record f { response = r })) ≡ true → (is_some r ≡ true) × ((is_killed f.decision ≡ false) × (f.finished ≡ false))
     go None h = cc
-    go (Some r) h =
-        (refl, or-cases (r.accept && not (is_killed f.decision || f.finished)) ((not r.accept && is_undecided f.decision) && (profile == 2)) ((is_killed f.decision ≡ false) × (f.finished ≡ false)) h
-        (λ x. running r.accept (is_killed f.decision) f.finished x)
-        (λ x. let u = refused (not r.accept) (is_undecided f.decision) (and-left (not r.accept && is_undecided f.decision) (profile == 2) x) in (undecided_unkilled f.decision u, held f.decision f.finished u e)))
+    go (Some r) h = (
+      refl,
+      or-cases (r.accept && not (is_killed f.decision || f.finished)) ((not r.accept && is_undecided f.decision) && (profile == 2)) ((is_killed f.decision ≡ false) × (f.finished ≡ false)) h
+          (λ x. running r.accept (is_killed f.decision) f.finished x)
+          (λ x. let u = refused (not r.accept) (is_undecided f.decision) (and-left (not r.accept && is_undecided f.decision) (profile == 2) x) in (undecided_unkilled f.decision u, held f.decision f.finished u e)),
+    )
 
 some_none : {A : Type 0} (o : Option A) → is_some o ≡ false → o ≡ None
 some_none None h = refl
@@ -193,9 +187,10 @@ module _ (hart : ℕ) (m : Machines) (p : Past) (k : Paired hart m) (t : EngineT
       let own = (Each-at (Offers k.answered hart m.core.flight x.owner) m.engine.uses a.front a.one a.back a.here offers).own (ap (λ f. f.start) same ∙ w.start) in
       let word : open_word m.core.flight ≡ Some (a.one.key.id, a.one.word) = own.offered (ap (λ y. y.hart) (key ∙ offer_key e h)) (ap (λ f. is_killed f.decision) same ∙ alive) in
       let first = if_at (FirstAt is_open m.core.flight) ch.offer e h c.offer in
-      let both : (e.id, e.word) ≡ (a.one.key.id, a.one.word) = same_some (open_word m.core.flight) _ _ (open_word-first m.core.flight e first) word in
-      (ap (λ y. y.1) both ∙ ap (λ f. f.instr) same ∙ w.word,
-      and_at (λ f. (f.response ≡ None) × (f.decision ≡ Undecided)) (p.facts (issue_key bus)) w.fact there (w.response, undecided w.fact.decision alive (ap (λ f. is_released f.decision) (sym same) ∙ own.not_released)))
+      let both : (e.id, e.word) ≡ (a.one.key.id, a.one.word) = same_some (open_word m.core.flight) _ _ (open_word-first m.core.flight e first) word in (
+        ap (λ y. y.1) both ∙ ap (λ f. f.instr) same ∙ w.word,
+        and_at (λ f. (f.response ≡ None) × (f.decision ≡ Undecided)) (p.facts (issue_key bus)) w.fact there (w.response, undecided w.fact.decision alive (ap (λ f. is_released f.decision) (sym same) ∙ own.not_released)),
+      )
     where
       undecided : (d : Decision) → is_killed d ≡ false → is_released d ≡ false → d ≡ Undecided
       undecided Undecided h i = refl

@@ -1,17 +1,13 @@
 -- The flags of the halves that are presented: they grow with what is there, and the flag of a half
 -- tells that it is there.
-use Rattle.std.proofs.Common.{◌≡◌, ◌≢◌, ◌<◌, ◌+◌, ◌*◌, ◌/◌, ◌%◌, ◌^◌, ◌==◌, ◌&&◌, not, ℕ, Bool, true, false, if◌then◌else◌, Option, Some, None, List, [], ◌∷◌, refl, sym, ap, ◌∙◌, subst, arith}
+use Rattle.std.proofs.Common.{◌≡◌, ◌≢◌, ◌<◌, ◌+◌, ◌*◌, ◌/◌, ◌%◌, ◌^◌, ℕ, Bool, true, false, refl, sym, ◌∙◌, subst, arith}
 use Rattle.std.specs.Prelude.{bit_or, max}
-use Rattle.std.specs.List.{fold}
 use Rattle.std.specs.Int.{bit_at}
 use Rattle.std.proofs.lemmas.Bool.{eqb-true, eqb-false, eq-eqb}
 use Rattle.std.proofs.lemmas.Nat.Bits.{bit_at_or, bit_at-lt, bit_at-zero}
 use Rattle.xif_base.specs.declared.params.Params.{Params}
-use Rattle.xif_base.specs.Params.{IsInRange}
-use Rattle.coproc_config.specs.Accept.{union_of, flag_of}
 use Rattle.inorder_machine.specs.declared.units.Half.{Half}
 use Rattle.inorder_machine.specs.declared.units.Half.TheVariants.{Low, High}
-use Rattle.inorder_machine.specs.Units.{bit_of}
 use Rattle.xif_signals.specs.Known.{has_flag}
 use Rattle.xif_session.specs.Rules.{IsWithin}
 use Rattle.ahead_laws.proofs.Presenting.{flag_if, flags_of_halves}

@@ -1,7 +1,6 @@
 -- Which starts had their issue handshake, after a cycle, is what the facts say.
-use Rattle.std.proofs.Common.{◌≡◌, ◌<◌, ◌+◌, ◌==◌, ◌&&◌, not, ℕ, Bool, true, false, if◌then◌else◌, Option, Some, None, refl, sym, ap, ◌∙◌, subst}
+use Rattle.std.proofs.Common.{◌≡◌, ◌==◌, ◌&&◌, not, ℕ, Bool, true, false, if◌then◌else◌, Option, Some, None, refl, sym, ap, ◌∙◌}
 use Rattle.std.specs.Prelude.{is_some}
-use Rattle.std.specs.Option.{option_map}
 use Rattle.std.proofs.lemmas.Bool.{eqb-true, eqb-false}
 use Rattle.xif_base.specs.declared.params.Key.{Key}
 use Rattle.xif_signals.specs.declared.bus.Bus.{Bus}
@@ -9,14 +8,14 @@ use Rattle.xif_signals.specs.declared.bus.CpuOut.{CpuOut}
 use Rattle.xif_signals.specs.declared.bus.CpuIn.{CpuIn}
 use Rattle.xif_session.specs.declared.fact.Response.{Response}
 use Rattle.xif_session.specs.declared.fact.Fact.{Fact}
-use Rattle.xif_session.specs.Facts.{Facts, Past, past_after, same_key, issue_key, is_issued, is_start, issue_continues, starts_key, named, answered_on, with_response, response_on}
-use Rattle.xif_session.proofs.Options.{Was, was_of, same_some, key_is, key_same}
+use Rattle.xif_session.specs.Facts.{Past, past_after, same_key, issue_key, is_issued, is_start, issue_continues, starts_key, named, answered_on, with_response, response_on}
+use Rattle.xif_session.proofs.Options.{was_of, same_some, key_is, key_same}
 use Rattle.cycle_spec.specs.State.{Engine}
 use Rattle.cycle_spec.specs.Engine.{issue_start, issue_ready}
 use Rattle.cycle_lists.proofs.Tests.{false-or}
 use Rattle.cycle_paired.proofs.Answering.{mark}
 use Rattle.trace_laws.specs.Driven.{bus_beside}
-use Rattle.trace_laws.proofs.Apart.{Apart, named-apart}
+use Rattle.trace_laws.proofs.Apart.{named-apart}
 use Rattle.trace_laws.proofs.EngineTold.{Orderly, EngineTold}
 use Rattle.trace_laws.proofs.EngineSteps.{named_other, Offered}
 use Rattle.trace_laws.proofs.EngineCycle as turn

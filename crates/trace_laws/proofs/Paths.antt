@@ -1,40 +1,33 @@
 -- The entries through the steps of a cycle: what is there for one of them stays, and what is done
 -- writes what it may write.
-use Rattle.std.proofs.Common.{◌≡◌, ◌≢◌, ◌<◌, ◌+◌, ◌++◌, ◌==◌, ◌&&◌, ◌||◌, ◌%◌, not, ℕ, zero, suc, Bool, true, false, if◌then◌else◌, Option, Some, None, List, [], ◌∷◌, map, take, drop, length, refl, sym, ap, ◌∙◌, subst, arith}
-use Rattle.std.specs.Prelude.{find, is_some, IfSome}
+use Rattle.std.proofs.Common.{◌≡◌, ◌<◌, ◌+◌, ◌==◌, ◌&&◌, ◌||◌, ◌%◌, not, ℕ, zero, suc, Bool, true, false, if◌then◌else◌, Option, Some, None, List, [], ◌∷◌, map, take, refl, sym, ap, ◌∙◌, subst, arith}
+use Rattle.std.specs.Prelude.{is_some, IfSome}
 use Rattle.std.proofs.lemmas.Bool.{eqb-true}
 use Rattle.rv32_table.specs.declared.instr.Instr.{Instr}
-use Rattle.rv32_table.specs.Instr.{rd_field, decoded, target_of}
+use Rattle.rv32_table.specs.Instr.{rd_field, decoded}
 use Rattle.inorder_machine.specs.declared.line.Retire.{Retire}
 use Rattle.inorder_machine.specs.declared.line.Stepped.{Stepped}
 use Rattle.inorder_machine.specs.declared.line.Stepped.TheVariants.{Retired, Stop}
 use Rattle.inorder_machine.specs.declared.line.Write.{Write}
 use Rattle.inorder_machine.specs.Execute.{executed}
-use Rattle.inorder_machine.specs.Machine.{registers_after}
 use Rattle.inorder_machine.specs.Units.{has_flag, unit_write}
 use Rattle.xif_signals.specs.declared.bus.Bus.{Bus}
 use Rattle.xif_session.specs.declared.fact.Response.{Response}
-use Rattle.xif_session.specs.Facts.{is_accepted, is_issued, is_given, is_taken, response_on}
-use Rattle.cycle_spec.specs.declared.choices.Choices.{Choices}
+use Rattle.xif_session.specs.Facts.{is_issued, is_taken, response_on}
 use Rattle.cycle_spec.specs.declared.choices.Executed.{Executed}
-use Rattle.cycle_spec.specs.declared.choices.Presented.{Presented}
 use Rattle.cycle_spec.specs.declared.entry.Entry.{Entry}
 use Rattle.cycle_spec.specs.declared.entry.EntryKind.{EntryKind}
 use Rattle.cycle_spec.specs.declared.entry.EntryKind.TheVariants.{Local, Unknown, Nowhere}
-use Rattle.cycle_spec.specs.declared.log.Cut.{Cut}
-use Rattle.cycle_spec.specs.Flight.{is_unknown, is_unknown_kind, is_open, has_seq, holds_id, may_write, may_write_kind, may_write_word, with_response, with_sent, with_release, with_result, with_outcome}
-use Rattle.cycle_spec.specs.Core.{response_on_offer, sent_on_present, release_step, cut_step, drain_step, result_for, execute_step, retire_step, registers_behind}
-use Rattle.cycle_lists.specs.Lists.{Each, Pairs, FirstAt}
+use Rattle.cycle_spec.specs.Flight.{is_unknown, is_unknown_kind, is_open, has_seq, may_write, may_write_kind, may_write_word, with_response, with_result, with_outcome}
+use Rattle.cycle_lists.specs.Lists.{Each}
 use Rattle.cycle_lists.specs.Order.{Before}
 use Rattle.cycle_lists.proofs.Tests.{some-is, and-left, and-right, or-left, or-right, or-cases, not-both, false-or, or-false}
-use Rattle.cycle_lists.proofs.Every.{Each-from, Each-both, Each-map, Each-at, Each-take, Each-drop, Pairs-take, Pairs-drop}
-use Rattle.cycle_lists.proofs.Order.{Kept, Leaves, mapped, leaves-response, leaves-sent, leaves-release, leaves-result, leaves-outcome}
-use Rattle.cycle_lists.proofs.Places.{first-at}
-use Rattle.cycle_paired.proofs.Facts.{only}
+use Rattle.cycle_lists.proofs.Every.{Each-from, Each-both, Each-map, Each-take, Pairs-take}
+use Rattle.cycle_lists.proofs.Order.{Kept, Leaves, mapped}
 use Rattle.cycle_paired.proofs.Executing.{Exec}
 use Rattle.ahead_laws.proofs.Rows.{decoded-registers}
 use Rattle.ahead_laws.proofs.Writes.{Within, row-writes, answered-writes}
-use Rattle.trace_laws.proofs.Views.{Steady, Wrote, Stays, stays-same, stays-then, stays-map, stays-take, stays-retired}
+use Rattle.trace_laws.proofs.Views.{Steady, Wrote, Stays, stays-then, stays-map, stays-take}
 
 -- ---- an entry
 

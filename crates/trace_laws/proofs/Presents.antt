@@ -1,14 +1,13 @@
 -- What is known of a cycle of the core beside the engine that it is paired with, for what stays of
 -- the registers that it presents.
-use Rattle.std.proofs.Common.{◌≡◌, ◌<◌, ◌+◌, ◌++◌, ◌==◌, ◌&&◌, ◌%◌, not, ℕ, zero, suc, Bool, true, false, if◌then◌else◌, Option, Some, None, List, [], ◌∷◌, take, filter, length, refl, sym, ap, ◌∙◌, subst}
+use Rattle.std.proofs.Common.{◌≡◌, ◌++◌, ◌%◌, ℕ, zero, suc, Bool, true, false, if◌then◌else◌, Option, Some, None, List, [], ◌∷◌, take, length, refl, sym, ap, ◌∙◌, subst}
 use Rattle.std.specs.Prelude.{is_some, IfSome}
 use Rattle.std.specs.Option.{option_map}
 use Rattle.rv32_table.specs.Instr.{rd_field}
 use Rattle.inorder_machine.specs.declared.stop.StopCause.{StopCause}
-use Rattle.xif_base.specs.declared.params.Params.{Params}
 use Rattle.xif_signals.specs.declared.bus.Bus.{Bus}
 use Rattle.xif_signals.specs.Known.{has_flag}
-use Rattle.xif_session.specs.Facts.{Past, is_issued, is_taken}
+use Rattle.xif_session.specs.Facts.{Past}
 use Rattle.xif_session.specs.Legal.{EngineKeeps}
 use Rattle.xif_session.proofs.Options.{both-true, no_true}
 use Rattle.cycle_spec.specs.declared.choices.Choices.{Choices}
@@ -18,7 +17,7 @@ use Rattle.cycle_spec.specs.declared.choices.Mode.TheVariants.{Running, DrainBeg
 use Rattle.cycle_spec.specs.declared.choices.Presented.{Presented}
 use Rattle.cycle_spec.specs.declared.entry.Entry.{Entry}
 use Rattle.cycle_spec.specs.declared.use_of.Use.{Use}
-use Rattle.cycle_spec.specs.Flight.{is_open, is_unknown, youngest_released}
+use Rattle.cycle_spec.specs.Flight.{is_open, youngest_released}
 use Rattle.cycle_spec.specs.State.{Core}
 use Rattle.cycle_spec.specs.Choices.{stop_at, retirement, presentation_of, presented_entry, offer_in, choices, choices_by, choices_in, stay_with}
 use Rattle.cycle_spec.specs.Core.{word_in}
@@ -29,16 +28,15 @@ use Rattle.cycle_lists.specs.Order.{Before}
 use Rattle.cycle_lists.proofs.Every.{Each-from, Each-at, Each-append, Each-passed, Pairs-older, Pairs-younger}
 use Rattle.cycle_lists.proofs.Filters.{filter-at, unfilter}
 use Rattle.cycle_lists.proofs.Order.{start-kept}
-use Rattle.cycle_paired.specs.Paired.{is_live, live_entries, is_live_use, live_uses, Alike, Match, IsEntry, IsUse, Paired, response_of}
+use Rattle.cycle_paired.specs.Paired.{is_live, live_entries, is_live_use, live_uses, Match, IsEntry, IsUse, Paired, response_of}
 use Rattle.cycle_paired.proofs.Facts.{only, open-undone, live-undone, ready-live}
-use Rattle.cycle_paired.proofs.Executing.{Exec, Execs}
-use Rattle.cycle_paired.proofs.Matching.{Joined, joined}
-use Rattle.cycle_paired.proofs.Choosing.{Sound, sound}
-use Rattle.cycle_paired.proofs.Cycling.{facts_of}
+use Rattle.cycle_paired.proofs.Executing.{Execs}
+use Rattle.cycle_paired.proofs.Matching.{joined}
+use Rattle.cycle_paired.proofs.Choosing.{Sound}
 use Rattle.trace_laws.proofs.EngineTold.{EngineTold}
 use Rattle.trace_laws.proofs.EngineCycle.{Offer, offer_by}
 use Rattle.trace_laws.proofs.CoreChosen.{Chosen}
-use Rattle.trace_laws.proofs.Paths.{Fit, Finishes, Finishing, Executing, HeadIs, Heads, IsOffer, Answers}
+use Rattle.trace_laws.proofs.Paths.{Fit, Finishes, Finishing, Executing, Heads, IsOffer, Answers}
 use Rattle.trace_laws.proofs.Stable.{Known}
 
 -- ---- the choices

@@ -1,8 +1,7 @@
 -- What was accepted before a released use is released: in every cycle.
-use Rattle.std.proofs.Common.{◌≡◌, ◌<◌, ◌≤◌, ◌+◌, ◌++◌, ◌==◌, ◌&&◌, ◌||◌, not, ℕ, Bool, true, false, if◌then◌else◌, Option, Some, None, List, [], ◌∷◌, map, take, drop, refl, sym, ap, ◌∙◌, subst, arith}
-use Rattle.std.specs.Prelude.{find, is_some, IfSome, nat_le}
+use Rattle.std.proofs.Common.{◌≡◌, ◌<◌, ◌++◌, ◌&&◌, ◌||◌, ℕ, Bool, true, false, if◌then◌else◌, Option, Some, None, List, [], ◌∷◌, map, refl, sym, ap, ◌∙◌, subst, arith}
+use Rattle.std.specs.Prelude.{find, IfSome, nat_le}
 use Rattle.std.proofs.lemmas.Bool.{eqb-true}
-use Rattle.rv32_table.specs.Instr.{rd_field}
 use Rattle.inorder_machine.specs.declared.line.Stepped.{Stepped}
 use Rattle.inorder_machine.specs.declared.line.Stepped.TheVariants.{Retired, Stop}
 use Rattle.xif_signals.specs.declared.bus.Bus.{Bus}
@@ -15,11 +14,11 @@ use Rattle.cycle_spec.specs.declared.entry.Entry.{Entry}
 use Rattle.cycle_spec.specs.declared.log.Cut.{Cut}
 use Rattle.cycle_spec.specs.Flight.{is_open, is_safe, has_seq, holds_id, with_response, with_sent, with_release, with_result, with_outcome}
 use Rattle.cycle_spec.specs.State.{Core}
-use Rattle.cycle_spec.specs.Core.{response_on_offer, response_step, sent_on_present, sent_step, release_step, cut_step, drain_step, result_for, result_step, execute_step, retire_step, answered_entries, sent_entries, released_entries, kept_entries, finished_entries, executed_entries, settled_entries, with_dispatch, dispatch_of, next_entry}
+use Rattle.cycle_spec.specs.Core.{response_on_offer, sent_on_present, release_step, cut_step, drain_step, result_for, execute_step, retire_step, answered_entries, sent_entries, released_entries, kept_entries, finished_entries, executed_entries, settled_entries, with_dispatch, dispatch_of, next_entry}
 use Rattle.cycle_lists.specs.Lists.{Each, Pairs, FirstAt}
 use Rattle.cycle_lists.specs.Order.{Before}
 use Rattle.cycle_lists.proofs.Tests.{and-left, not-both, or-cases, or-left, or-right, and-both, le-in, le-out}
-use Rattle.cycle_lists.proofs.Every.{each, Each-from, Each-both, Pairs-map, Pairs-both, Pairs-take, Pairs-drop, Pairs-push}
+use Rattle.cycle_lists.proofs.Every.{each, Each-from, Pairs-map, Pairs-both, Pairs-take, Pairs-drop, Pairs-push}
 use Rattle.cycle_paired.specs.Paired.{Behind}
 use Rattle.cycle_paired.proofs.Facts.{only, open-unsafe}
 use Rattle.trace_laws.proofs.CoreChosen.{InOrder}
@@ -68,10 +67,12 @@ sent true None es h = h
 sent true (Some x) es h = Pairs-map Ranked (with_sent x.entry.seq) es (λ x y k. k) h
 
 release-pair : (seq : ℕ) (x y : Entry) → Ranked x y → Ranked (with_release seq x) (with_release seq y)
-release-pair seq x y r =
-    (λ released accepted. or-cases y.released (nat_le y.seq seq && is_accepted y.response) ((x.released || (nat_le x.seq seq && is_accepted x.response)) ≡ true) released
-    (λ q. or-left x.released _ (r.0 q accepted))
-    (λ q. or-right x.released _ (and-both (nat_le x.seq seq) (is_accepted x.response) (le-out x.seq seq (let a = le-in y.seq seq (and-left (nat_le y.seq seq) (is_accepted y.response) q) in let l = r.1 in omega arith)) accepted)), r.1)
+release-pair seq x y r = (
+  λ released accepted. or-cases y.released (nat_le y.seq seq && is_accepted y.response) ((x.released || (nat_le x.seq seq && is_accepted x.response)) ≡ true) released
+      (λ q. or-left x.released _ (r.0 q accepted))
+      (λ q. or-right x.released _ (and-both (nat_le x.seq seq) (is_accepted x.response) (le-out x.seq seq (let a = le-in y.seq seq (and-left (nat_le y.seq seq) (is_accepted y.response) q) in let l = r.1 in omega arith)) accepted)),
+  r.1,
+)
 
 released : (o : Option Entry) (es : List Entry) → Pairs Ranked es → Pairs Ranked (release_step o es)
 released None es h = h

@@ -1,9 +1,8 @@
 -- The buses of a run are those of a session.
-use Rattle.std.proofs.Common.{◌≡◌, ◌≢◌, ◌<◌, ◌||◌, ℕ, zero, suc, Bool, true, false, Option, Some, None, List, [], ◌∷◌, refl, sym, ap, ◌∙◌, subst, arith}
+use Rattle.std.proofs.Common.{◌≡◌, ◌≢◌, ◌<◌, ◌||◌, ℕ, zero, suc, Bool, true, false, Option, Some, None, List, ◌∷◌, refl, sym, ap, ◌∙◌}
 use Rattle.std.specs.Prelude.{is_some}
 use Rattle.std.specs.Option.{option_or}
 use Rattle.inorder_machine.specs.declared.stop.StopCause.{StopCause}
-use Rattle.xif_base.specs.Params.{IsInRange}
 use Rattle.xif_signals.specs.declared.bus.Bus.{Bus}
 use Rattle.xif_session.specs.Facts.{Past}
 use Rattle.xif_session.specs.Legal.{EachCycle}
@@ -13,8 +12,7 @@ use Rattle.cycle_spec.specs.State.{Core}
 use Rattle.cycle_spec.specs.Choices.{choices, choices_in}
 use Rattle.cycle_spec.specs.Core.{mode_after}
 use Rattle.cycle_spec.specs.Cycle.{Machines, bus_at, cycle}
-use Rattle.cycle_spec.specs.Run.{Setup, Meaning, Progress, new_machines, start, next, unless, cycles_until, is_stopped, is_empty, drain_limit, with_drain, drained, progress_of}
-use Rattle.cycle_paired.specs.Reached.{begins_drain}
+use Rattle.cycle_spec.specs.Run.{Setup, Meaning, Progress, start, next, unless, cycles_until, is_stopped, is_empty, drain_limit, with_drain, drained, progress_of}
 use Rattle.trace_laws.specs.Sessions.{Session, Begun, Cycled, Drained}
 
 -- what is said of each cycle of a session, with the next one

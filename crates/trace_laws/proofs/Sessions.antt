@@ -1,6 +1,5 @@
 -- What core and engine keep of each other and of the facts, in every session.
-use Rattle.std.proofs.Common.{◌≡◌, ◌<◌, length, ℕ, Bool, true, false, Option, Some, None, List, [], ◌∷◌, refl, sym, ap, ◌∙◌, subst, arith}
-use Rattle.std.specs.Prelude.{is_some}
+use Rattle.std.proofs.Common.{◌≡◌, ◌<◌, length, ℕ, Bool, true, false, None, List, [], ◌∷◌, refl, sym, ap, ◌∙◌, subst, arith}
 use Rattle.xif_base.specs.declared.params.Params.{Params}
 use Rattle.xif_base.specs.Params.{IsInRange}
 use Rattle.xif_signals.specs.declared.bus.Bus.{Bus}
@@ -9,21 +8,19 @@ use Rattle.xif_signals.specs.declared.rule.Channel.TheVariants.{Issue, Register,
 use Rattle.xif_signals.specs.declared.rule.Rule.{Rule}
 use Rattle.xif_signals.specs.declared.rule.Rule.TheVariants.{K1, K2, H1, I1, I2, I3, I4, I5, G1, G2, G3, G4, G5, C1, C2, C3, R1, R2, R3, R4, R5, R6}
 use Rattle.xif_session.specs.Facts.{Past, past_of, past_after}
-use Rattle.xif_session.specs.Rules.{HasHart, HoldsH1, HoldsG2, HoldsG3, HoldsG4, HoldsC1, HoldsC2, HoldsC3}
-use Rattle.xif_session.specs.Legal.{Holds, CoreKeeps, EngineKeeps, EachCycle, IsLegalSession}
+use Rattle.xif_session.specs.Rules.{HasHart, HoldsG2, HoldsG3, HoldsG4, HoldsC1, HoldsC2, HoldsC3}
+use Rattle.xif_session.specs.Legal.{EngineKeeps, EachCycle, IsLegalSession}
 use Rattle.cycle_spec.specs.declared.choices.Mode.{Mode}
 use Rattle.cycle_spec.specs.declared.choices.Mode.TheVariants.{Running, DrainBegins}
 use Rattle.cycle_spec.specs.Flight.{is_unknown}
-use Rattle.cycle_spec.specs.State.{Core, Engine}
+use Rattle.cycle_spec.specs.State.{Core}
 use Rattle.cycle_spec.specs.Choices.{choices}
-use Rattle.cycle_spec.specs.Core.{core_clock}
-use Rattle.cycle_spec.specs.Engine.{engine_clock, engine_drive}
-use Rattle.cycle_spec.specs.Cycle.{Machines, cpu_at, cop_at, input_at, bus_at, core_bus_at, cycle, hart_if}
+use Rattle.cycle_spec.specs.Cycle.{Machines, cpu_at, input_at, bus_at, core_bus_at, cycle, hart_if}
 use Rattle.cycle_spec.specs.Run.{Setup, new_machines}
 use Rattle.cycle_lists.specs.Lists.{Each, Pairs}
 use Rattle.cycle_paired.specs.Paired.{Paired}
 use Rattle.cycle_paired.specs.Reached.{begins_drain, resumes}
-use Rattle.cycle_paired.proofs.Choosing.{Facts, sound}
+use Rattle.cycle_paired.proofs.Choosing.{sound}
 use Rattle.cycle_paired.proofs.Cycling.{facts_of}
 use Rattle.cycle_paired.proofs.Closing.{cycle-paired, cycle-marked}
 use Rattle.cycle_paired.proofs.Always.{start-paired, drain-paired, resumed-paired, turn-paired}
@@ -31,7 +28,7 @@ use Rattle.trace_laws.specs.Sessions.{Session, Begun, Cycled, Drained, Resumed, 
 use Rattle.trace_laws.proofs.EngineTold.{Orderly, EngineTold}
 use Rattle.trace_laws.proofs.EngineRules as engine
 use Rattle.trace_laws.proofs.EngineHalf.{new_told}
-use Rattle.trace_laws.proofs.CoreChosen.{InOrder, Chosen, chosen}
+use Rattle.trace_laws.proofs.CoreChosen.{InOrder, chosen}
 use Rattle.trace_laws.proofs.CoreRules.{Linked}
 use Rattle.trace_laws.proofs.CoreRules as core
 use Rattle.trace_laws.proofs.CoreCommits as commits

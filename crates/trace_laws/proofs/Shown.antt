@@ -1,57 +1,36 @@
 -- While a register transaction waits, what it shows stays.
-use Rattle.std.proofs.Common.{◌≡◌, ◌≢◌, ◌<◌, ◌≤◌, ◌+◌, ◌++◌, ◌*◌, ◌%◌, ◌^◌, ◌==◌, ◌&&◌, ◌||◌, not, ℕ, zero, suc, Bool, true, false, if◌then◌else◌, Option, Some, None, List, [], ◌∷◌, length, slice_index, refl, sym, ap, ◌∙◌, subst, arith}
-use Rattle.std.specs.Prelude.{is_some, IfSome, nat_le, nat_lt}
-use Rattle.std.specs.List.{list_any}
-use Rattle.std.specs.Option.{option_map, option_map_or}
-use Rattle.std.proofs.lemmas.Bool.{eqb-true, eq-eqb}
-use Rattle.rv32_table.specs.Instr.{source_field}
-use Rattle.xif_base.specs.declared.params.Key.{Key}
-use Rattle.xif_base.specs.declared.params.Params.{Params}
+use Rattle.std.proofs.Common.{◌≡◌, ◌<◌, ◌+◌, ◌++◌, ◌*◌, ◌^◌, ℕ, zero, suc, Bool, true, false, if◌then◌else◌, Option, Some, None, List, ◌∷◌, length, slice_index, refl, sym, ap, ◌∙◌, subst, arith}
+use Rattle.std.specs.Prelude.{IfSome, nat_lt}
 use Rattle.xif_base.specs.Params.{IsInRange}
 use Rattle.xif_base.specs.Flags.{odd_bit, even_bit}
-use Rattle.xif_drive.specs.Scripts.{Lists, delay_of}
 use Rattle.inorder_machine.specs.declared.units.Half.{Half}
 use Rattle.inorder_machine.specs.declared.units.Half.TheVariants.{Low, High}
-use Rattle.inorder_machine.specs.Units.{half_register}
 use Rattle.xif_signals.specs.declared.bus.Bus.{Bus}
 use Rattle.xif_signals.specs.Known.{has_flag}
-use Rattle.xif_session.specs.Facts.{Past, same_key, register_key, register_waits, register_continues, starts_key}
-use Rattle.xif_session.specs.Rules.{IsWithin, HoldsG3, HoldsG4, SameHalves, lane_value, low_half, high_half}
-use Rattle.xif_session.proofs.Options.{both-true, no_true, not_in, key_is, lt_in}
+use Rattle.xif_session.specs.Facts.{Past, same_key, register_key, register_waits, register_continues}
+use Rattle.xif_session.specs.Rules.{IsWithin, HoldsG3, HoldsG4, lane_value, low_half}
+use Rattle.xif_session.proofs.Options.{both-true, key_is, lt_in}
 use Rattle.cycle_spec.specs.declared.choices.Choices.{Choices}
 use Rattle.cycle_spec.specs.declared.choices.Presented.{Presented}
 use Rattle.cycle_spec.specs.declared.entry.Entry.{Entry}
-use Rattle.cycle_spec.specs.declared.entry.EntryKind.{EntryKind}
 use Rattle.cycle_spec.specs.declared.entry.Operand.{Operand}
 use Rattle.cycle_spec.specs.declared.entry.Operand.TheVariants.{Here, NotYet}
-use Rattle.cycle_spec.specs.declared.turn.Transaction.{Transaction}
-use Rattle.cycle_spec.specs.declared.turn.Transactions.{Transactions}
-use Rattle.cycle_spec.specs.declared.turn.Turn.{Turn}
-use Rattle.cycle_spec.specs.Flight.{is_unknown, is_unknown_kind, is_open, is_waiting, has_seq, operand_at, is_here, value_or_zero, free_id}
-use Rattle.cycle_spec.specs.Turns.{turn_of, is_past, aged, transactions_after}
+use Rattle.cycle_spec.specs.Flight.{is_unknown, is_open, is_here, value_or_zero}
 use Rattle.cycle_spec.specs.State.{Core}
-use Rattle.cycle_spec.specs.Choices.{choices, is_late, has_half, half_value, half_of, flags_of, lane_of, presentation_of}
-use Rattle.cycle_spec.specs.Core.{presented_id, presented_flags, presented_lane, present_owner, registers_behind, settled_entries, with_dispatch, dispatch_of, next_entry, core_after}
-use Rattle.cycle_spec.specs.Cycle.{Machines, hart_if, bus_at, core_bus_at}
-use Rattle.cycle_lists.specs.Lists.{Each, Pairs, FirstAt}
-use Rattle.cycle_lists.specs.Order.{Before, IsFree}
-use Rattle.cycle_lists.proofs.Tests.{and-left, and-right, false-or}
-use Rattle.cycle_lists.proofs.Every.{Each-from, Each-both, Each-at, Each-push, Each-append, Pairs-older, Pairs-younger}
+use Rattle.cycle_spec.specs.Choices.{choices, half_of, flags_of, lane_of, presentation_of}
+use Rattle.cycle_spec.specs.Core.{presented_id, presented_flags, presented_lane}
+use Rattle.cycle_spec.specs.Cycle.{Machines, bus_at}
+use Rattle.cycle_lists.specs.Lists.{Each, FirstAt}
+use Rattle.cycle_lists.proofs.Every.{Each-at}
 use Rattle.cycle_paired.specs.Paired.{IsEntry, Paired}
-use Rattle.cycle_paired.proofs.Facts.{only, open-unknown, waiting-accepted, accepted-some}
+use Rattle.cycle_paired.proofs.Facts.{open-unknown, waiting-accepted, accepted-some}
 use Rattle.cycle_paired.proofs.Choosing.{Presents}
-use Rattle.cycle_paired.proofs.Fixed.{Fixed, fixed-settled}
 use Rattle.ahead_laws.proofs.Presenting.{set-here, flags_of_halves}
-use Rattle.trace_laws.proofs.Uses.{any-in}
 use Rattle.trace_laws.proofs.CoreChosen.{Chosen}
-use Rattle.trace_laws.proofs.CoreRules.{some_case, if_at}
+use Rattle.trace_laws.proofs.CoreRules.{some_case}
 use Rattle.trace_laws.proofs.Flags.{flags-within, low-of}
 use Rattle.trace_laws.proofs.Paths.{Fit}
 use Rattle.trace_laws.proofs.Presents.{presented-is}
-use Rattle.trace_laws.proofs.Stable.{Known}
-use Rattle.trace_laws.proofs.Stable as stable
-use Rattle.trace_laws.proofs.Views.{has, Stays}
-use Rattle.trace_laws.proofs.Words.{Worded, words}
 
 -- each half that was there for one entry is there for another, with the same value
 abbrev pub Grows : Core → Entry → Core → Entry → Type 0

@@ -1,12 +1,9 @@
 -- After a cycle the register transaction that waits shows no less.
-use Rattle.std.proofs.Common.{◌≡◌, ◌≢◌, ◌<◌, ◌≤◌, ◌+◌, ◌++◌, ◌==◌, ◌&&◌, ◌||◌, not, ℕ, Bool, true, false, if◌then◌else◌, Option, Some, None, List, [], ◌∷◌, length, refl, sym, ap, ◌∙◌, subst, arith}
-use Rattle.std.specs.Prelude.{is_some, nat_le}
-use Rattle.std.specs.List.{list_any}
+use Rattle.std.proofs.Common.{◌≡◌, ◌<◌, ◌+◌, ◌++◌, ◌==◌, ◌&&◌, not, ℕ, Bool, true, false, if◌then◌else◌, Option, Some, None, List, [], ◌∷◌, length, refl, sym, ap, ◌∙◌, subst, arith}
 use Rattle.std.specs.Option.{option_map_or}
 use Rattle.std.proofs.lemmas.Bool.{eq-eqb}
 use Rattle.rv32_table.specs.Instr.{source_field}
 use Rattle.xif_drive.specs.Scripts.{delay_of}
-use Rattle.inorder_machine.specs.declared.units.Half.{Half}
 use Rattle.inorder_machine.specs.Units.{half_register}
 use Rattle.xif_signals.specs.declared.bus.Bus.{Bus}
 use Rattle.xif_session.specs.Facts.{Past, past_after, register_waits}
@@ -21,21 +18,19 @@ use Rattle.cycle_spec.specs.declared.turn.Transactions.{Transactions}
 use Rattle.cycle_spec.specs.Flight.{is_unknown, is_unknown_kind, has_seq, operand_at, free_id}
 use Rattle.cycle_spec.specs.Turns.{turn_of, is_past, transactions_after, aged}
 use Rattle.cycle_spec.specs.State.{Core}
-use Rattle.cycle_spec.specs.Choices.{choices, is_late, has_half, half_value, half_of}
-use Rattle.cycle_spec.specs.Core.{present_owner, presented_id, registers_behind, settled_entries, with_dispatch, dispatch_of, next_entry, core_after}
+use Rattle.cycle_spec.specs.Choices.{choices, is_late, has_half, half_value}
+use Rattle.cycle_spec.specs.Core.{present_owner, presented_id, registers_behind, settled_entries, with_dispatch, next_entry, core_after}
 use Rattle.cycle_spec.specs.Cycle.{Machines, bus_at, core_bus_at}
 use Rattle.cycle_lists.specs.Lists.{Each, Pairs}
 use Rattle.cycle_lists.specs.Order.{Before, IsFree}
-use Rattle.cycle_lists.proofs.Tests.{and-left, and-right, or-left, or-right, false-or}
+use Rattle.cycle_lists.proofs.Tests.{or-left, or-right}
 use Rattle.cycle_lists.proofs.Every.{Each-from, Each-both, Each-at, Each-push, Each-append, Pairs-older, Pairs-younger}
 use Rattle.cycle_paired.specs.Paired.{Paired}
 use Rattle.cycle_paired.proofs.Facts.{only}
 use Rattle.cycle_paired.proofs.Fixed.{Fixed, fixed-settled}
-use Rattle.inorder_machine.specs.Machine.{registers_after}
 use Rattle.ahead_laws.proofs.Writes.{count-after}
 use Rattle.trace_laws.proofs.CoreChosen.{Chosen}
 use Rattle.trace_laws.proofs.CoreRules.{some_case}
-use Rattle.trace_laws.proofs.Paths.{Fit}
 use Rattle.trace_laws.proofs.Shown.{Grows, Shown, Operands, PresentedAt, presented_at, shown-flags, shown-lanes}
 use Rattle.trace_laws.proofs.Stable.{Known, fitted, cycled}
 use Rattle.trace_laws.proofs.Views.{has, Stays}

@@ -1,6 +1,6 @@
 -- Over a cycle what is there for an instruction in flight stays.
-use Rattle.std.proofs.Common.{◌≡◌, ◌≢◌, ◌<◌, ◌+◌, ◌++◌, ◌==◌, ◌&&◌, ◌||◌, not, ℕ, zero, suc, Bool, true, false, if◌then◌else◌, Option, Some, None, List, [], ◌∷◌, map, take, drop, length, refl, sym, ap, ◌∙◌, subst, arith}
-use Rattle.std.specs.Prelude.{find, is_some, IfSome}
+use Rattle.std.proofs.Common.{◌≡◌, ◌≢◌, ◌<◌, ◌++◌, ◌==◌, ◌||◌, ℕ, Bool, true, false, if◌then◌else◌, Option, Some, None, List, [], ◌∷◌, length, refl, sym, ap, ◌∙◌, subst, arith}
+use Rattle.std.specs.Prelude.{find, IfSome}
 use Rattle.std.proofs.lemmas.Bool.{eqb-true}
 use Rattle.rv32_table.specs.declared.instr.Instr.{Instr}
 use Rattle.rv32_table.specs.Instr.{rd_field, decoded}
@@ -13,22 +13,20 @@ use Rattle.cycle_spec.specs.declared.choices.Choices.{Choices}
 use Rattle.cycle_spec.specs.declared.choices.Executed.{Executed}
 use Rattle.cycle_spec.specs.declared.choices.Presented.{Presented}
 use Rattle.cycle_spec.specs.declared.entry.Entry.{Entry}
-use Rattle.cycle_spec.specs.declared.entry.EntryKind.{EntryKind}
-use Rattle.cycle_spec.specs.declared.entry.EntryKind.TheVariants.{Local, Unknown, Nowhere}
+use Rattle.cycle_spec.specs.declared.entry.EntryKind.TheVariants.{Local}
 use Rattle.cycle_spec.specs.declared.log.Cut.{Cut}
 use Rattle.cycle_spec.specs.Flight.{is_unknown, is_unknown_kind, has_seq, holds_id, kind_at, kind_by, free_id, with_response, with_sent, with_release, with_result, with_outcome}
 use Rattle.cycle_spec.specs.State.{Core}
 use Rattle.cycle_spec.specs.Core.{response_on_offer, sent_on_present, release_step, cut_step, drain_step, result_for, execute_step, retire_step, answered_entries, sent_entries, released_entries, kept_entries, finished_entries, executed_entries, settled_entries, registers_behind, memory_behind, ahead_behind, word_or_zero, with_dispatch, dispatch_of, next_entry}
-use Rattle.cycle_lists.specs.Lists.{Each, Pairs, FirstAt}
+use Rattle.cycle_lists.specs.Lists.{Each, Pairs}
 use Rattle.cycle_lists.specs.Order.{Before}
-use Rattle.cycle_lists.proofs.Tests.{and-left, and-right, not-both, false-or, or-false}
-use Rattle.cycle_lists.proofs.Every.{each, Each-from, Each-both, Each-at, Each-push}
+use Rattle.cycle_lists.proofs.Tests.{and-left, and-right, false-or, or-false}
+use Rattle.cycle_lists.proofs.Every.{each, Each-both, Each-at, Each-push}
 use Rattle.cycle_lists.proofs.Order.{Kept, leaves-response, leaves-sent, leaves-release, leaves-result, leaves-outcome}
 use Rattle.cycle_lists.proofs.Places.{first-at}
 use Rattle.cycle_paired.proofs.Facts.{only}
-use Rattle.cycle_paired.proofs.Executing.{Exec}
-use Rattle.trace_laws.proofs.Views.{Wrote, has, Stays, stays-same, stays-then, stays-retired, stays-push}
-use Rattle.trace_laws.proofs.Paths.{Fit, Finishes, Finishing, Executing, executing-same, HeadIs, Heads, Path, path-map, path-weaker, path-take, plain, fit-same, IsOffer, Answers, steady-answer, fit-answer, finishing-answer, steady-result, fit-result, steady-outcome, fit-outcome}
+use Rattle.trace_laws.proofs.Views.{Stays, stays-same, stays-then, stays-retired, stays-push}
+use Rattle.trace_laws.proofs.Paths.{Fit, Finishing, Executing, executing-same, Heads, Path, path-map, path-weaker, path-take, plain, fit-same, IsOffer, Answers, steady-answer, fit-answer, finishing-answer, steady-result, fit-result, steady-outcome, fit-outcome}
 
 -- what is known of a cycle
 pub record Known (w : Core) (ch : Choices) (b : Bus) : Type 0 where

@@ -1,21 +1,19 @@
 -- A register that is there for an instruction in flight stays as it is, whatever else goes on.
-use Rattle.std.proofs.Common.{◌≡◌, ◌≢◌, ◌<◌, ◌+◌, ◌++◌, ◌==◌, ◌&&◌, ◌||◌, not, ℕ, zero, suc, Bool, true, false, if◌then◌else◌, Option, Some, None, List, [], ◌∷◌, map, take, drop, filter, length, slice_index, refl, sym, ap, ◌∙◌, subst, arith}
+use Rattle.std.proofs.Common.{◌≡◌, ◌≢◌, ◌++◌, ◌==◌, ◌&&◌, ◌||◌, not, ℕ, zero, suc, Bool, true, false, if◌then◌else◌, Option, Some, None, List, [], ◌∷◌, map, take, filter, length, slice_index, refl, sym, ap, ◌∙◌, subst, arith}
 use Rattle.std.specs.List.{list_any, last_or}
 use Rattle.std.proofs.lemmas.Bool.{eqb-true}
 use Rattle.std.proofs.lemmas.List.{map-append}
-use Rattle.inorder_machine.specs.declared.line.Write.{Write}
 use Rattle.inorder_machine.specs.Machine.{register_in, registers_after}
 use Rattle.cycle_spec.specs.declared.entry.Entry.{Entry}
-use Rattle.cycle_spec.specs.declared.entry.Operand.{Operand}
 use Rattle.cycle_spec.specs.declared.entry.Operand.TheVariants.{Here, NotYet}
 use Rattle.cycle_spec.specs.Flight.{has_seq, older_than, may_write, may_write_kind, youngest_writer, value_in, operand_from, operand_behind, operand_at}
-use Rattle.cycle_lists.specs.Lists.{Each, Pairs, LastAt}
+use Rattle.cycle_lists.specs.Lists.{Each, LastAt}
 use Rattle.cycle_lists.specs.Order.{Before}
-use Rattle.cycle_lists.proofs.Tests.{and-left, or-left, or-right, or-cases, not-both, false-or, true-or}
-use Rattle.cycle_lists.proofs.Every.{Each-from, Each-both, Each-map, Each-at, Each-back}
+use Rattle.cycle_lists.proofs.Tests.{or-right, or-cases, not-both, false-or}
+use Rattle.cycle_lists.proofs.Every.{Each-at, Each-back}
 use Rattle.cycle_lists.proofs.Places.{any-none, last-found, last-at, no-last}
 use Rattle.ahead_laws.proofs.Writes.{Within}
-use Rattle.trace_laws.proofs.Uses.{none-last, any-front}
+use Rattle.trace_laws.proofs.Uses.{none-last}
 
 -- ---- where the value of a register comes from
 

@@ -1,4 +1,4 @@
-use Rattle.std.proofs.Common.{false, ◌<◌, arith}
+use Rattle.std.proofs.Common.{false, arith}
 use Rattle.cycle_spec.specs.Run.{progress_of}
 use Rattle.trace_laws.specs.Sessions.{HoldsBut, is_stable_halves}
 use Rattle.trace_laws.proofs.Runs.{run_said}
