@@ -97,6 +97,7 @@ pub record Finished (hart n id c : ℕ) (answered : ℕ → Bool) (u : Use) (es 
   pub live_is : is_live entry ≡ true
   pub hart_is : u.key.hart ≡ hart
   pub word_is : entry.word ≡ u.word
+  pub hit_is : partner.hit ≡ u.hit
   pub result_is : partner.result ≡ u.result
   pub joint : (w : Write) → Joint hart n id c answered (map (with_result entry.seq w) es) (map (with_end u.start) us)
 
@@ -134,6 +135,7 @@ finishing hart n id c answered u es us k j =
       live_is = l;
       hart_is = ap (λ q. q.hart) (sym k.key) ∙ d.alike.hart_is;
       word_is = sym d.alike.word ∙ k.word;
+      hit_is = k.hit;
       result_is = k.result;
       joint = λ w.
           let q = finished w p in
