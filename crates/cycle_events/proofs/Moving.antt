@@ -108,6 +108,15 @@ pub path-last : (from : ℕ) (ys : List Item) (z : Item) → path_end from (ys +
 path-last from [] z = refl
 path-last from (o ∷ ys) z = path-last (leads_to o.entry) ys z
 
+-- the same of the entries
+abbrev pub end_of : (from : ℕ) → List Entry → ℕ
+end_of from [] = from
+end_of from (e ∷ es) = end_of (leads_to e) es
+
+pub end-of : (from : ℕ) (ys : List Item) → path_end from ys ≡ end_of from (entries ys)
+end-of from [] = refl
+end-of from (y ∷ ys) = end-of (leads_to y.entry) ys
+
 -- ---- an event that changes one item
 
 -- a change by the number is a change of one entry

@@ -8,8 +8,9 @@ use Rattle.cycle_spec.specs.Engine.{latest}
 use Rattle.cycle_lists.specs.Lists.{Each, Pairs}
 use Rattle.cycle_lists.specs.Order.{Before}
 use Rattle.cycle_lists.proofs.Tests.{not-both}
-use Rattle.cycle_lists.proofs.Every.{Each-from, Each-map, Each-both, Each-append, Pairs-older, Pairs-younger}
-use Rattle.cycle_paired.specs.Paired.{is_live, Older}
+use Rattle.cycle_lists.proofs.Every.{Each-from, Each-map, Each-both, Each-append, Each-front, Each-back, Pairs-older, Pairs-younger}
+use Rattle.cycle_paired.specs.Paired.{is_live, IsEntry, Older}
+use Rattle.cycle_paired.proofs.Facts.{live-unknown}
 use Rattle.cycle_paired.proofs.Matching.{latest-at}
 use Rattle.ahead_spec.specs.Walk.{Item}
 use Rattle.ahead_spec.specs.Operands.{word_hit}
@@ -100,3 +101,16 @@ tied-item x hart us y z s h = Each-from (Tie x hart y) (Tie x hart z) us (λ u t
 -- an item that isn't live is tied to nothing
 pub tied-dead : (x : Extension) (hart : ℕ) (us : List Use) (y : Item) → is_live y.entry ≡ false → Tied x hart us y
 tied-dead x hart us y d = each-split (Tie x hart y) us (λ f u b h l a i. absurd (not-both (is_live y.entry) d l))
+
+-- ---- ids
+
+-- the ids of live entries around an unknown word differ from its own
+pub record OtherIds (older : List Entry) (e : Entry) (younger : List Entry) : Type 0 where
+  pub front : Each (λ y. is_live y ≡ true → y.id ≢ e.id) older
+  pub back : Each (λ y. is_live y ≡ true → y.id ≢ e.id) younger
+
+pub other-ids-at : (older : List Entry) (e : Entry) (younger : List Entry) → Pairs Before (older ++ e ∷ younger) → Each IsEntry (older ++ e ∷ younger) → is_unknown e ≡ true → OtherIds older e younger
+other-ids-at older e younger b ok u = record {
+  front = Each-both (λ y. Before y e) IsEntry (λ y. is_live y ≡ true → y.id ≢ e.id) older (λ y k o l q. k.apart (live-unknown y o l) u q) (Pairs-older Before older e younger b) (Each-front IsEntry older (e ∷ younger) ok);
+  back = Each-both (Before e) IsEntry (λ y. is_live y ≡ true → y.id ≢ e.id) younger (λ y k o l q. k.apart u (live-unknown y o l) (sym q)) (Pairs-younger Before older e younger b) (Each-back IsEntry older (e ∷ younger) ok).1;
+}
