@@ -4,3 +4,4 @@ pub mod Answered
 pub mod Sent
 pub mod Decided
 pub mod Finished
+pub mod Wide
