@@ -5,3 +5,5 @@ pub mod Sent
 pub mod Decided
 pub mod Finished
 pub mod Wide
+pub mod Executed
+pub mod Retired
