@@ -7,3 +7,4 @@ pub mod Finished
 pub mod Wide
 pub mod Executed
 pub mod Retired
+pub mod Applied
