@@ -269,7 +269,7 @@ pub record Ready (x : Extension) (start : State) (hart : ℕ) (answered : ℕ �
   pub shows : Shows x start hart left es us at w
   pub uses : Uses hart answered es us
 
-computes : (x : Extension) (start : State) (hart : ℕ) (left : Left) (at : ℕ) (w : World) (cycle : ℕ) (answered : ℕ → Bool) (es : List Entry) (pre us : List Use) (state : List (List ℕ))
+pub computes : (x : Extension) (start : State) (hart : ℕ) (left : Left) (at : ℕ) (w : World) (cycle : ℕ) (answered : ℕ → Bool) (es : List Entry) (pre us : List Use) (state : List (List ℕ))
     → IsInRange x.params → Pairs Before es → Each IsEntry es → Each (λ v. is_next hart v ≡ false) pre → Ready x start hart answered (with_units left state) es (pre ++ us) at w
     → Becomes x (Ready x start hart answered (with_units left (units_behind x.set is_complete hart state us)) es (pre ++ ready_uses x.set cycle hart state us) at) w
 computes x start hart left at w cycle answered es pre [] state range b ok passed m = stays x (Ready x start hart answered (with_units left state) es (pre ++ []) at) w m

@@ -8,3 +8,6 @@ pub mod Wide
 pub mod Executed
 pub mod Retired
 pub mod Applied
+pub mod Harts
+pub mod Chosen
+pub mod Choosing
