@@ -11,3 +11,4 @@ pub mod Applied
 pub mod Harts
 pub mod Chosen
 pub mod Choosing
+pub mod Starting

@@ -36,6 +36,7 @@ use Rattle.ahead_laws.proofs.Hits.{hit-allowed}
 -- an entry earlier and later in a cycle; until the execution, only words of coprocessors are stopped
 pub record Wide (still dual : Bool) (x y : Entry) : Type 0 where
   pub seq : y.seq ≡ x.seq
+  pub id : y.id ≡ x.id
   pub kind : y.kind ≡ x.kind
   pub pc : y.pc ≡ x.pc
   pub word : y.word ≡ x.word
@@ -56,6 +57,7 @@ AllWide still dual (x ∷ xs) (y ∷ ys) = Wide still dual x y × AllWide still 
 wide-trans : (still dual : Bool) (x y z : Entry) → Wide still dual x y → Wide still dual y z → Wide still dual x z
 wide-trans still dual x y z a b = record {
   seq = b.seq ∙ a.seq;
+  id = b.id ∙ a.id;
   kind = b.kind ∙ a.kind;
   pc = b.pc ∙ a.pc;
   word = b.word ∙ a.word;
@@ -82,7 +84,7 @@ all-take still dual (suc k) (x ∷ xs) [] a = absurd a
 all-take still dual (suc k) (x ∷ xs) (y ∷ ys) a = (a.0, all-take still dual k xs ys a.1)
 
 wide-less : (dual : Bool) (x y : Entry) → Wide true dual x y → Wide false dual x y
-wide-less dual x y a = record { seq = a.seq; kind = a.kind; pc = a.pc; word = a.word; predicted = a.predicted; stop = λ s. cc; narrow = a.narrow; wrote = a.wrote; fixed = a.fixed }
+wide-less dual x y a = record { seq = a.seq; id = a.id; kind = a.kind; pc = a.pc; word = a.word; predicted = a.predicted; stop = λ s. cc; narrow = a.narrow; wrote = a.wrote; fixed = a.fixed }
 
 pub all-less : (dual : Bool) (xs ys : List Entry) → AllWide true dual xs ys → AllWide false dual xs ys
 all-less dual [] [] a = tt
@@ -124,14 +126,14 @@ may-same dual n x y k r w = ap (λ q. not (n == 0) && may_write_kind dual q y n)
     go Unknown = ap (λ o. may_write_word dual o (rd_field y.word) n) r ∙ ap (λ o. may_write_word dual x.response (rd_field o) n) w
     go Nowhere = refl
 
-wide-of : (still dual : Bool) (x y : Entry) → y.seq ≡ x.seq → y.kind ≡ x.kind → y.pc ≡ x.pc → y.word ≡ x.word → y.predicted ≡ x.predicted → y.response ≡ x.response → (still ≡ true → y.stop ≡ x.stop)
+wide-of : (still dual : Bool) (x y : Entry) → y.seq ≡ x.seq → y.id ≡ x.id → y.kind ≡ x.kind → y.pc ≡ x.pc → y.word ≡ x.word → y.predicted ≡ x.predicted → y.response ≡ x.response → (still ≡ true → y.stop ≡ x.stop)
     → (x.done ≡ true → (y.done ≡ true) × (line_of y ≡ line_of x)) → Wide still dual x y
-wide-of still dual x y s k p w q r t f =
+wide-of still dual x y s i k p w q r t f =
     let same = λ (n : ℕ). may-same dual n x y k r w in
-    record { seq = s; kind = k; pc = p; word = w; predicted = q; stop = λ a u. t a; narrow = λ n h. sym (same n) ∙ h; wrote = λ n d h. same n ∙ h; fixed = f }
+    record { seq = s; id = i; kind = k; pc = p; word = w; predicted = q; stop = λ a u. t a; narrow = λ n h. sym (same n) ∙ h; wrote = λ n d h. same n ∙ h; fixed = f }
 
 wide-same : (still dual : Bool) (x : Entry) → Wide still dual x x
-wide-same still dual x = wide-of still dual x x refl refl refl refl refl refl (λ s. refl) (λ d. (d, refl))
+wide-same still dual x = wide-of still dual x x refl refl refl refl refl refl refl (λ s. refl) (λ d. (d, refl))
 
 pub all-same : (still dual : Bool) (xs : List Entry) → AllWide still dual xs xs
 all-same still dual [] = tt
@@ -142,15 +144,15 @@ all-map still dual f [] h = tt
 all-map still dual f (x ∷ xs) h = (h.0, all-map still dual f xs h.1)
 
 pub all-sent : (still dual : Bool) (s : ℕ) (xs : List Entry) → AllWide still dual xs (map (with_sent s) xs)
-all-sent still dual s xs = all-map still dual (with_sent s) xs (each (λ x. Wide still dual x (with_sent s x)) xs (λ x. wide-of still dual x (with_sent s x) refl refl refl refl refl refl (λ a. refl) (λ d. (d, refl))))
+all-sent still dual s xs = all-map still dual (with_sent s) xs (each (λ x. Wide still dual x (with_sent s x)) xs (λ x. wide-of still dual x (with_sent s x) refl refl refl refl refl refl refl (λ a. refl) (λ d. (d, refl))))
 
 pub all-release : (still dual : Bool) (s : ℕ) (xs : List Entry) → AllWide still dual xs (map (with_release s) xs)
-all-release still dual s xs = all-map still dual (with_release s) xs (each (λ x. Wide still dual x (with_release s x)) xs (λ x. wide-of still dual x (with_release s x) refl refl refl refl refl refl (λ a. refl) (λ d. (d, refl))))
+all-release still dual s xs = all-map still dual (with_release s) xs (each (λ x. Wide still dual x (with_release s x)) xs (λ x. wide-of still dual x (with_release s x) refl refl refl refl refl refl refl (λ a. refl) (λ d. (d, refl))))
 
 -- a result
 wide-result : (dual : Bool) (s : ℕ) (w : Write) (e : Entry) → (e.seq ≡ s → e.done ≡ false) → Wide true dual e (with_result s w e)
 wide-result dual s w e n =
-    wide-of true dual e (with_result s w e) refl refl refl refl refl refl (λ a. refl) (λ d. (or-left e.done (e.seq == s) d, ap (λ t. line_of (record e { write = cond t w e.write })) (ne_eqb e.seq s (λ q. not-both e.done (n q) d))))
+    wide-of true dual e (with_result s w e) refl refl refl refl refl refl refl (λ a. refl) (λ d. (or-left e.done (e.seq == s) d, ap (λ t. line_of (record e { write = cond t w e.write })) (ne_eqb e.seq s (λ q. not-both e.done (n q) d))))
 
 pub all-result : (dual : Bool) (s : ℕ) (w : Write) (xs : List Entry) → Each (λ e. e.seq ≡ s → e.done ≡ false) xs → AllWide true dual xs (map (with_result s w) xs)
 all-result dual s w xs h = all-map true dual (with_result s w) xs (Each-from (λ e. e.seq ≡ s → e.done ≡ false) (λ e. Wide true dual e (with_result s w e)) xs (λ e n. wide-result dual s w e n) h)
@@ -158,9 +160,9 @@ all-result dual s w xs h = all-map true dual (with_result s w) xs (Each-from (λ
 -- an execution
 wide-outcome : (dual : Bool) (s : ℕ) (o : Stepped) (e : Entry) → Execs s o e → Wide false dual e (with_outcome s o e)
 wide-outcome dual s (Retired l) e x =
-    wide-of false dual e (with_outcome s (Retired l) e) refl refl refl refl refl refl (λ a. cc)
+    wide-of false dual e (with_outcome s (Retired l) e) refl refl refl refl refl refl refl (λ a. cc)
     (λ d. (or-left e.done (e.seq == s) d, ap (λ t. line_of (record e { write = cond t l.write e.write; store = cond t l.store e.store; next = cond t l.next e.next })) (ne_eqb e.seq s (λ q. not-both e.done (x q).not_done d))))
-wide-outcome dual s (Stop c) e x = wide-of false dual e (with_outcome s (Stop c) e) refl refl refl refl refl refl (λ a. cc) (λ d. (d, refl))
+wide-outcome dual s (Stop c) e x = wide-of false dual e (with_outcome s (Stop c) e) refl refl refl refl refl refl refl (λ a. cc) (λ d. (d, refl))
 
 pub all-outcome : (dual : Bool) (s : ℕ) (o : Stepped) (xs : List Entry) → Each (Execs s o) xs → AllWide false dual xs (map (with_outcome s o) xs)
 all-outcome dual s o xs h = all-map false dual (with_outcome s o) xs (Each-from (Execs s o) (λ e. Wide false dual e (with_outcome s o e)) xs (λ e n. wide-outcome dual s o e n) h)
@@ -224,7 +226,7 @@ wide-response : (dual : Bool) (s : ℕ) (x : Response) (e : Entry) → (e.seq �
 wide-response dual s x e l o ok = go (e.seq == s) refl
   where
     go : (t : Bool) → (e.seq == s) ≡ t → Wide true dual e (with_response s x e)
-    go false q = wide-of true dual e (with_response s x e) refl refl refl refl refl (ap (λ t. cond t (Some x) e.response) q) (λ a. ap (λ t. cond (t && not x.accept) (Some Illegal) e.stop) q) (λ d. (d, refl))
+    go false q = wide-of true dual e (with_response s x e) refl refl refl refl refl refl (ap (λ t. cond t (Some x) e.response) q) (λ a. ap (λ t. cond (t && not x.accept) (Some Illegal) e.stop) q) (λ d. (d, refl))
     go true q =
         let y = with_response s x e in
         let at = eqb-true e.seq s q in
@@ -233,6 +235,7 @@ wide-response dual s x e l o ok = go (e.seq == s) refl
         let undone = open-undone e ok op in
         record {
           seq = refl;
+          id = refl;
           kind = refl;
           pc = refl;
           word = refl;
