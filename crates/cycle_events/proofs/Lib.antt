@@ -12,3 +12,5 @@ pub mod Harts
 pub mod Chosen
 pub mod Choosing
 pub mod Starting
+pub mod Presented
+pub mod Halving
