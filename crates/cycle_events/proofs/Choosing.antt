@@ -178,13 +178,14 @@ missed-chosen w run f g h = go (execution w w.flight) (reads-all w f.before)
     turned x r c t =
         let b : Pairs Before (r.older ++ x.entry ∷ r.younger) = subst (Pairs Before) r.here f.before in
         let one : take c.keep es ≡ r.older ++ x.entry ∷ [] = ap (λ n. take n es) t.keep ∙ ap (λ l. take (count_through x.entry.seq l) l) r.here ∙ taken-through r.older x.entry r.younger b in
+        let place : ReadsAt w (take c.keep es) x = record { older = r.older; younger = []; here = one; reads = r.reads } in
         record {
           shows = shows-it w (presented_entry w.params.split (offer_in es) es);
-          execute = record { older = r.older; younger = []; here = one; reads = r.reads };
+          execute = place;
           retire = retires-turned w (Some x) c _ t.keep misses;
           drained = λ n. absurd (n run);
           leads = λ n. absurd (n run);
-          ends = λ _. Turned c x r.older t.line refl refl one t.outcome t.target;
+          ends = λ _. Turned c x place t.line refl refl refl t.outcome t.target;
         }
 
     by : (x : Executed) → ReadsAt w es x → (c : Option Cut) → control_cut (Some x) es ≡ c → IsChosen w (choices_with w (retirement es) (Some x) c)

@@ -76,7 +76,7 @@ pub record RetiresAt (w : Core) (ch : Choices) (e : Entry) : Type 0 where
 pub data Ends (w : Core) (ch : Choices) : Type 0 where
   Plain : ch.cut ≡ None → ch.drain ≡ None → IfSome ch.execute LeadsOn → Ends w ch
   Stored : (c : Cut) (e : Entry) → ch.cut ≡ Some c → kept ch w.flight ≡ e ∷ [] → ch.execute ≡ None → e.done ≡ true → c.target ≡ e.next → Ends w ch
-  Turned : (c : Cut) (x : Executed) (older : List Entry) (line : Retire) → ch.cut ≡ Some c → ch.execute ≡ Some x → kept ch w.flight ≡ older ++ x.entry ∷ [] → x.outcome ≡ Retired line → c.target ≡ line.next → Ends w ch
+  Turned : (c : Cut) (x : Executed) (r : ReadsAt w (kept ch w.flight) x) (line : Retire) → ch.cut ≡ Some c → ch.execute ≡ Some x → r.younger ≡ [] → x.outcome ≡ Retired line → c.target ≡ line.next → Ends w ch
 
 pub record IsChosen (w : Core) (ch : Choices) : Type 0 where
   pub shows : IfSome ch.present (λ x. x ≡ presentation_of w x.entry)

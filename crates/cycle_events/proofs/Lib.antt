@@ -14,3 +14,4 @@ pub mod Choosing
 pub mod Starting
 pub mod Presented
 pub mod Halving
+pub mod Holding
