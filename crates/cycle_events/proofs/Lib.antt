@@ -15,3 +15,4 @@ pub mod Starting
 pub mod Presented
 pub mod Halving
 pub mod Holding
+pub mod Settling
