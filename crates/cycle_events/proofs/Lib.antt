@@ -16,3 +16,4 @@ pub mod Presented
 pub mod Halving
 pub mod Holding
 pub mod Settling
+pub mod Cycled
