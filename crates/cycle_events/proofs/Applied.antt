@@ -113,19 +113,19 @@ item-result x hart us y t ok d h a = go y.entry.done refl
 -- ---- one use
 
 -- what is known of a use that is computed
-record IsComputed (hart : ℕ) (answered : ℕ → Bool) (u : Use) : Type 0 where
-  hart_is : u.key.hart ≡ hart
-  accepted : is_accepted u ≡ true
-  unready : u.ready ≡ None
-  released : is_released u.decision ≡ true
-  operands : has_operands u ≡ true
-  live : is_live_use answered u ≡ true
+pub record IsComputed (hart : ℕ) (answered : ℕ → Bool) (u : Use) : Type 0 where
+  pub hart_is : u.key.hart ≡ hart
+  pub accepted : is_accepted u ≡ true
+  pub unready : u.ready ≡ None
+  pub released : is_released u.decision ≡ true
+  pub operands : has_operands u ≡ true
+  pub live : is_live_use answered u ≡ true
 
 none-is : (o : Option ℕ) → is_none o ≡ true → o ≡ None
 none-is None h = refl
 none-is (Some v) h = cc
 
-computed : (hart : ℕ) (answered : ℕ → Bool) (u : Use) → IsUse answered u → IsHeld u → is_next hart u ≡ true → is_complete u ≡ true → IsComputed hart answered u
+pub computed : (hart : ℕ) (answered : ℕ → Bool) (u : Use) → IsUse answered u → IsHeld u → is_next hart u ≡ true → is_complete u ≡ true → IsComputed hart answered u
 computed hart answered u ok held n c =
     let a = and-right (u.key.hart == hart) (is_accepted u && (not (is_killed u.decision) && is_none u.ready)) n in
     let acc = and-left (is_accepted u) (not (is_killed u.decision) && is_none u.ready) a in

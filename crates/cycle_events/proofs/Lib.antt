@@ -17,3 +17,4 @@ pub mod Halving
 pub mod Holding
 pub mod Settling
 pub mod Cycled
+pub mod Stopping
