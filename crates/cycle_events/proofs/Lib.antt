@@ -18,3 +18,4 @@ pub mod Holding
 pub mod Settling
 pub mod Cycled
 pub mod Stopping
+pub mod Between

@@ -101,3 +101,14 @@ pub record Shown (start : State) (hart : ℕ) (retired : List Retire) (m : Machi
 abbrev pub with_line : Option Retire → List Retire → List Retire
 with_line None retired = retired
 with_line (Some line) retired = line ∷ retired
+
+-- ---- the first state
+
+-- the state of the in-order machine that core and engine begin in
+abbrev pub state_in : (hart : ℕ) → Machines → State
+state_in hart m = record {
+  pc = m.core.pc;
+  registers = m.core.registers;
+  memory = m.core.memory;
+  units = units_of m.engine hart;
+}
