@@ -2,6 +2,7 @@
 use Rattle.std.proofs.Common.{◌≡◌, ◌&&◌, ◌+◌, ◌++◌, ℕ, Bool, true, false, cond, List, [], ◌∷◌, Option, Some, None, refl, sym, ap, ◌∙◌, subst, arith}
 use Rattle.std.specs.Prelude.{is_some, IfSome, slice_index_or}
 use Rattle.std.specs.Option.{option_map}
+use Rattle.std.specs.List.{cons_option}
 use Rattle.xif_base.specs.Params.{IsInRange}
 use Rattle.xif_image.specs.Region.{Region, word_at}
 use Rattle.inorder_machine.specs.declared.line.Retire.{Retire}
@@ -35,7 +36,7 @@ use Rattle.cycle_paired.proofs.Same.{settled-is}
 use Rattle.cycle_paired.proofs.Closing.{bus_for, both_after}
 use Rattle.ahead_spec.specs.World.{World}
 use Rattle.cycle_events.specs.Becomes.{Becomes}
-use Rattle.cycle_events.specs.Shown.{IsHeld, Left, left_by, Shows, IsCalm, extension_of, Shown, with_line}
+use Rattle.cycle_events.specs.Shown.{IsHeld, Left, left_by, Shows, IsCalm, extension_of, Shown}
 use Rattle.cycle_events.proofs.Moving.{stays, next, end_of}
 use Rattle.cycle_events.proofs.Retired.{dispatches}
 use Rattle.cycle_events.proofs.Applied.{Uses, with_units, Ready}
@@ -69,7 +70,7 @@ left_next o left units = record {
   pc = pc_behind o left.pc;
   registers = registers_behind o left.registers;
   memory = memory_behind o left.memory;
-  retired = with_line (option_map line_of o) left.retired;
+  retired = cons_option (option_map line_of o) left.retired;
   units = units;
 }
 
@@ -106,7 +107,7 @@ dispatching x start hart left to v answer w ch es us true range mem h m =
 
 shown-after : (start : State) (hart : ℕ) (retired : List Retire) (answer : ℕ → ℕ → ℕ) (m : Machines) (ch : Choices) (input : CpuIn) (w : World) → IsInRange m.core.params → Paired hart m → Sound m.core.params.split m.core.flight ch → IsChosen m.core ch
     → (ch.dispatch ≡ true → m.core.mode ≡ Running) → Shown start hart retired m w
-    → Becomes (ext m.core m.engine.set) (Shown start hart (with_line (option_map line_of ch.retire) retired) (both_after hart answer m ch input)) w
+    → Becomes (ext m.core m.engine.set) (Shown start hart (cons_option (option_map line_of ch.retire) retired) (both_after hart answer m ch input)) w
 shown-after start hart retired answer m ch input w range k so ct dis sh =
     let c = m.core in
     let e = m.engine in
@@ -152,7 +153,7 @@ shown-after start hart retired answer m ch input w range k so ct dis sh =
     let units = slice_index_or (units_in_harts e.set 0 e.units us5) hart [] in
     let us9 = ready_in_harts e.set e.cycle 0 e.units us5 in
     let after = both_after hart answer m ch input in
-    let retired' = with_line (option_map line_of ch.retire) retired in
+    let retired' = cons_option (option_map line_of ch.retire) retired in
     let Done = Shown start hart retired' after in
     next x (Halved hart m start left sh.at ch) Done w (halving hart m start left sh.at w ch range refl k so ct s0) (λ v1 half1.
     (let r = routed c ch left.pc sh.at es4 ct wide4 half1.plain in
@@ -209,7 +210,7 @@ dispatch-runs w h = go w.mode h
     go Draining k = cc
 
 pub cycled : (start : State) (hart : ℕ) (retired : List Retire) (answer : ℕ → ℕ → ℕ) (m : Machines) (w : World) → IsInRange m.core.params → Paired hart m → (choices m.core).stop ≡ None → Shown start hart retired m w
-    → Becomes (extension_of m.engine) (Shown start hart (with_line (option_map line_of (choices m.core).retire) retired) (cycle m hart answer)) w
+    → Becomes (extension_of m.engine) (Shown start hart (cons_option (option_map line_of (choices m.core).retire) retired) (cycle m hart answer)) w
 unfolding cycle
 cycled start hart retired answer m w range k z sh =
     let c = m.core in
@@ -219,5 +220,5 @@ cycled start hart retired answer m w range k z sh =
     let s0 : Shows x start hart (left_by hart retired m) c.flight m.engine.uses sh.at w = subst (λ e. Shows e start hart (left_by hart retired m) c.flight m.engine.uses sh.at w) same sh.shows in
     let go = all-go x start hart (left_by hart retired m) sh.at c.flight m.engine.uses w s0 in
     let ct = chosen c f go sh.calm z in
-    subst (λ e. Becomes e (Shown start hart (with_line (option_map line_of (choices c).retire) retired) (cycle m hart answer)) w) (sym same)
+    subst (λ e. Becomes e (Shown start hart (cons_option (option_map line_of (choices c).retire) retired) (cycle m hart answer)) w) (sym same)
     (shown-after start hart retired answer m (choices c) (input_at m hart) w range k (sound c f z) ct (dispatch-runs c) sh)

@@ -1,5 +1,6 @@
 //! What core and engine do, as events of the machine that runs ahead.
 ghost use Rattle.std.specs.Prelude.{◌≡◌, ℕ, List, [], Option, Some, None, option_map};
+ghost use Rattle.std.specs.List.{cons_option};
 ghost use Rattle.xif_base.specs.Params.{IsInRange};
 ghost use Rattle.inorder_machine.specs.declared.line.Retire.{Retire};
 ghost use Rattle.inorder_machine.specs.declared.stop.StopCause.{StopCause};
@@ -12,7 +13,7 @@ ghost use Rattle.cycle_paired.specs.Paired.{Paired};
 ghost use Rattle.cycle_paired.specs.Reached.{begins_drain, resumes};
 ghost use Rattle.ahead_spec.specs.World.{World, begun};
 ghost use Rattle.cycle_events.specs.Becomes.{Becomes};
-ghost use Rattle.cycle_events.specs.Shown.{Shown, left_by, with_line, extension_of, state_in};
+ghost use Rattle.cycle_events.specs.Shown.{Shown, left_by, extension_of, state_in};
 
 /// The machine that runs ahead shows core and engine before the first cycle. In each cycle that
 /// doesn't stop the machine, events that may happen lead it to where it shows them after the cycle,
@@ -27,7 +28,7 @@ pub fn each_cycle_is_a_list_of_events()
         IsInRange m.core.params → Paired hart m → (choices m.core).stop ≡ None →
         Shown start hart retired m w →
         Becomes (extension_of m.engine)
-        (Shown start hart (with_line (option_map line_of (choices m.core).retire) retired)
+        (Shown start hart (cons_option (option_map line_of (choices m.core).retire) retired)
         (cycle m hart answer)) w }
     ensures drain { (start : State) (hart : ℕ) (retired : List Retire) (m : Machines) (w : World) →
         Shown start hart retired m w → Shown start hart retired (begins_drain m) w }
