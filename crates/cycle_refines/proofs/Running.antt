@@ -282,21 +282,21 @@ refined s p es a units stop =
       stop = stop;
     }
 
-pub run-refines : {P : Type 0} (meaning : Meaning P) (s : Setup) (predictor : P) → IsInRange s.params → RefinesInOrder s (progress_of meaning s predictor).machines.core.flight (run_of meaning s predictor)
-run-refines meaning s predictor range = go (progress_of meaning s predictor) (comes meaning s predictor range)
+refined-at : {P : Type 0} (s : Setup) (p : Progress P) → Comes s p → RefinesInOrder s p.machines.core.flight (run_after p)
+refined-at s p (Going g) =
+    let l = leaves s (retired_in p.logs) p.machines (run (extension_in s) (begun (first_state s)) g.events.events) g.extension g.events.there in
+    refined s p p.machines.core.flight l.after_it l.units (λ cause h. absurd (no-stop cause (sym (ap end_by g.unstopped) ∙ h)))
   where
-    go : (p : Progress _) → Comes s p → RefinesInOrder s p.machines.core.flight (run_after p)
-    go p (Going g) =
-        let l = leaves s (retired_in p.logs) p.machines (run (extension_in s) (begun (first_state s)) g.events.events) g.extension g.events.there in
-        refined s p p.machines.core.flight l.after_it l.units (λ cause h. absurd (no-stop cause (sym (ap end_by g.unstopped) ∙ h)))
-      where
-        no-stop : (cause : StopCause) → Budget ≡ Stopped cause → ⊥
-        no-stop cause h = cc
-    go p (Halted h) =
-        refined s p p.machines.core.flight h.after_it (λ q. h.units) (λ cause q. by cause (stopped-is cause (sym (ap end_by h.stopped) ∙ q)))
-      where
-        stopped-is : (cause : StopCause) → Stopped h.cause ≡ Stopped cause → h.cause ≡ cause
-        stopped-is cause q = cc
+    no-stop : (cause : StopCause) → Budget ≡ Stopped cause → ⊥
+    no-stop cause h = cc
+refined-at s p (Halted h) =
+    refined s p p.machines.core.flight h.after_it (λ q. h.units) (λ cause q. by cause (stopped-is cause (sym (ap end_by h.stopped) ∙ q)))
+  where
+    stopped-is : (cause : StopCause) → Stopped h.cause ≡ Stopped cause → h.cause ≡ cause
+    stopped-is cause q = cc
 
-        by : (cause : StopCause) → h.cause ≡ cause → (next_step (extension_in s) h.after_it.now ≡ Stop cause) × (units_of p.machines.engine 0 ≡ h.after_it.now.units)
-        by cause q = (h.stops ∙ ap Stop q, h.units)
+    by : (cause : StopCause) → h.cause ≡ cause → (next_step (extension_in s) h.after_it.now ≡ Stop cause) × (units_of p.machines.engine 0 ≡ h.after_it.now.units)
+    by cause q = (h.stops ∙ ap Stop q, h.units)
+
+pub run-refines : {P : Type 0} (meaning : Meaning P) (s : Setup) (predictor : P) → IsInRange s.params → RefinesInOrder s (progress_of meaning s predictor).machines.core.flight (run_of meaning s predictor)
+run-refines meaning s predictor range = refined-at s (progress_of meaning s predictor) (comes meaning s predictor range)
