@@ -1,5 +1,6 @@
 -- What core and engine keep of each other and of the facts, in every session.
-use Rattle.std.proofs.Common.{◌≡◌, ◌<◌, length, ℕ, Bool, true, false, None, List, [], ◌∷◌, refl, sym, ap, ◌∙◌, subst, arith}
+use Rattle.std.proofs.Common.{◌&&◌, if◌then◌else◌, Option, Some, ◌≡◌, ◌<◌, length, ℕ, Bool, true, false, None, List, [], ◌∷◌, refl, sym, ap, ◌∙◌, subst, arith}
+use Rattle.std.specs.Prelude.{is_some}
 use Rattle.xif_base.specs.declared.params.Params.{Params}
 use Rattle.xif_base.specs.Params.{IsInRange}
 use Rattle.xif_signals.specs.declared.bus.Bus.{Bus}
@@ -9,12 +10,15 @@ use Rattle.xif_signals.specs.declared.rule.Rule.{Rule}
 use Rattle.xif_signals.specs.declared.rule.Rule.TheVariants.{K1, K2, H1, I1, I2, I3, I4, I5, G1, G2, G3, G4, G5, C1, C2, C3, R1, R2, R3, R4, R5, R6}
 use Rattle.xif_session.specs.Facts.{Past, past_of, past_after}
 use Rattle.xif_session.specs.Rules.{HasHart, HoldsG2, HoldsG3, HoldsG4, HoldsC1, HoldsC2, HoldsC3}
+use Rattle.xif_session.proofs.Options.{both-true, no_true}
 use Rattle.xif_session.specs.Legal.{EngineKeeps, EachCycle, IsLegalSession}
 use Rattle.cycle_spec.specs.declared.choices.Mode.{Mode}
-use Rattle.cycle_spec.specs.declared.choices.Mode.TheVariants.{Running, DrainBegins}
+use Rattle.cycle_spec.specs.declared.choices.Mode.TheVariants.{Running, DrainBegins, Draining}
 use Rattle.cycle_spec.specs.Flight.{is_unknown}
 use Rattle.cycle_spec.specs.State.{Core}
-use Rattle.cycle_spec.specs.Choices.{choices}
+use Rattle.inorder_machine.specs.declared.stop.StopCause.{StopCause}
+use Rattle.cycle_spec.specs.Choices.{stop_at, choices_by, choices_in, choices}
+use Rattle.cycle_spec.specs.Engine.{issue_start, issue_ready}
 use Rattle.cycle_spec.specs.Cycle.{Machines, cpu_at, input_at, bus_at, core_bus_at, cycle, hart_if}
 use Rattle.cycle_spec.specs.Run.{Setup, new_machines}
 use Rattle.cycle_lists.specs.Lists.{Each, Pairs}
@@ -23,8 +27,10 @@ use Rattle.cycle_paired.specs.Reached.{begins_drain, resumes}
 use Rattle.cycle_paired.proofs.Choosing.{sound}
 use Rattle.cycle_paired.proofs.Cycling.{facts_of}
 use Rattle.cycle_paired.proofs.Closing.{cycle-paired, cycle-marked}
+use Rattle.cycle_paired.proofs.Answering.{mark}
+use Rattle.cycle_paired.proofs.Stopping.{TurnedTo, stop-turned}
 use Rattle.cycle_paired.proofs.Always.{start-paired, drain-paired, resumed-paired, turn-paired}
-use Rattle.trace_laws.specs.Sessions.{Session, Begun, Cycled, Drained, Resumed, Turned, HoldsBut, is_stable_halves}
+use Rattle.trace_laws.specs.Sessions.{Session, Begun, Cycled, Drained, Resumed, Turned, Stopped, HoldsBut, is_stable_halves}
 use Rattle.trace_laws.proofs.EngineTold.{Orderly, EngineTold}
 use Rattle.trace_laws.proofs.EngineRules as engine
 use Rattle.trace_laws.proofs.EngineHalf.{new_told}
@@ -146,6 +152,41 @@ turn_legal hart other m p w l below h none k n q = record {
   };
 }
 
+-- in the cycle of the stop nothing is offered or presented
+stop-quiet : (w : Core) (cause : StopCause) → (choices w).stop ≡ Some cause → (is_some (choices w).offer ≡ false) × (is_some (choices w).present ≡ false)
+stop-quiet w cause h = go w.mode h
+  where
+    by : (o : Option StopCause) → (choices_by w o).stop ≡ Some cause → (is_some (choices_by w o).offer ≡ false) × (is_some (choices_by w o).present ≡ false)
+    by None z = cc
+    by (Some c) z = (refl, refl)
+
+    go : (mode : Mode) → (choices_in w mode).stop ≡ Some cause → (is_some (choices_in w mode).offer ≡ false) × (is_some (choices_in w mode).present ≡ false)
+    go Running z = by (stop_at w.flight) z
+    go DrainBegins z = cc
+    go Draining z = cc
+
+-- behind it a core of any hart goes on
+pub stop_legal : (hart other : ℕ) (m : Machines) (answer : ℕ → ℕ → ℕ) (p : Past) (cause : StopCause) (w : Core) → IsInRange m.engine.params → Legal hart m p → other < m.engine.params.num_harts → (choices m.core).stop ≡ Some cause
+    → w.flight ≡ [] → length w.registers ≡ 32 → w.params ≡ m.core.params → Legal other (record { core = w; engine = (cycle m hart answer).engine }) (past_after p (bus_at m hart))
+unfolding cycle
+stop_legal hart other m answer p cause w range l below s k n q =
+    let o = (cycle_keeps hart m p range l).orderly in
+    let turn = stop-turned hart other m answer cause w l.paired s k q in
+    let quiet = stop-quiet m.core cause s in
+    record {
+      paired = turn.paired;
+      told = engine.kept m.engine p (cpu_at m hart) (input_at m hart) range l.told o;
+      linked = links.linked_after m.engine p (cpu_at m hart) (input_at m hart) l.told o l.paired.answered l.linked turn.paired.answered
+          (λ start. turn.marks start ∙ ap (λ v. if v then mark (issue_start m.engine (cpu_at m hart)) (v && issue_ready m.engine (cpu_at m hart)) l.paired.answered start else l.paired.answered start) (sym quiet.0));
+      released = subst (Pairs InOrder) (sym k) tt;
+      below = below;
+      operands = record {
+        fit = subst (Each (Fit w.params.dual_write)) (sym k) tt;
+        count = n;
+        shown = λ z. no_true (is_some (choices m.core).present) (both-true (is_some (choices m.core).present) _ z).0 quiet.1;
+      };
+    }
+
 -- the parameters stay
 pub record Legal_of (left_out : Rule → Bool) (setup : Setup) (hart : ℕ) (m : Machines) (session : List Bus) : Type 0 where
   pub params : m.engine.params ≡ setup.params
@@ -218,6 +259,13 @@ module _ (left_out : Rule → Bool) (setup : Setup) (range : IsInRange setup.par
         params = l.params;
         legal = turn_legal hart other m (past_of session) w l.legal (subst (λ z. other < z.num_harts) (sym l.params) below) h waits k n q;
         so_far = l.so_far;
+      }
+  session_legal other _ _ (Stopped hart _ m session answer cause w x below s k n q) =
+      let l = session_legal hart m session x in
+      record {
+        params = params-cycle hart m answer ∙ l.params;
+        legal = stop_legal hart other m answer (past_of session) cause w (subst IsInRange (sym l.params) range) l.legal (subst (λ z. other < z.num_harts) (sym l.params) below) s k n q;
+        so_far = (keeps_on hart m session l, l.so_far);
       }
 
   -- and with the next cycle

@@ -1,11 +1,12 @@
 -- The sessions of core and engine, by their buses, and the rules that are said of them.
-use Rattle.std.specs.Prelude.{◌≡◌, ◌<◌, ℕ, Bool, true, false, None, List, [], ◌∷◌, length}
+use Rattle.std.specs.Prelude.{◌≡◌, ◌<◌, ℕ, Bool, true, false, None, Some, List, [], ◌∷◌, length}
 use Rattle.xif_base.specs.declared.params.Params.{Params}
 use Rattle.xif_signals.specs.declared.bus.Bus.{Bus}
 use Rattle.xif_signals.specs.declared.rule.Rule.{Rule}
 use Rattle.xif_signals.specs.declared.rule.Rule.TheVariants.{G4}
 use Rattle.xif_session.specs.Facts.{Past}
 use Rattle.xif_session.specs.Legal.{Holds}
+use Rattle.inorder_machine.specs.declared.stop.StopCause.{StopCause}
 use Rattle.cycle_spec.specs.State.{Core}
 use Rattle.cycle_spec.specs.Choices.{choices}
 use Rattle.cycle_spec.specs.Cycle.{Machines, bus_at, cycle}
@@ -14,8 +15,8 @@ use Rattle.cycle_paired.specs.Reached.{begins_drain, resumes}
 
 -- Core and engine go on from the start of a setup, and have put these buses, the newest first. A
 -- hart's core goes on by cycles in which nothing stops it, whatever its predictor answers; between
--- cycles a drain may begin or end; and where nothing is in flight or offered, the core of another
--- hart may take its place.
+-- cycles a drain may begin or end; and where nothing is in flight or offered, or behind the cycle
+-- that stops it, a core with nothing in flight may take its place, for any hart.
 pub data Session (setup : Setup) : (hart : ℕ) → Machines → List Bus → Type 0 where
   Begun
       : (hart : ℕ) → hart < setup.params.num_harts
@@ -36,6 +37,14 @@ pub data Session (setup : Setup) : (hart : ℕ) → Machines → List Bus → Ty
       → m.core.flight ≡ [] → m.engine.issue_turns.waiting ≡ None
       → w.flight ≡ [] → length w.registers ≡ 32 → w.params ≡ m.core.params
       → Session setup other (record m { core = w }) session
+  Stopped
+      : (hart other : ℕ) (m : Machines) (session : List Bus) (answer : (pc word : ℕ) → ℕ)
+      → (cause : StopCause) (w : Core)
+      → Session setup hart m session → other < setup.params.num_harts
+      → (choices m.core).stop ≡ Some cause
+      → w.flight ≡ [] → length w.registers ≡ 32 → w.params ≡ m.core.params
+      → Session setup other (record { core = w; engine = (cycle m hart answer).engine })
+      (bus_at m hart ∷ session)
 
 -- ---- the rules but for some
 
