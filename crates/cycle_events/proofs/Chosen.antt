@@ -141,19 +141,21 @@ reads-local w older e i x h k d may same =
     let s1 = source_behind dual w.registers older (sources_of i).0 in
     let s2 = source_behind dual w.registers older (sources_of i).1 in
     let outcome : executed w.memory (record { pc = e.pc; word = e.word }) i (value_or_zero s1) (value_or_zero s2) ≡ outcome_of w e i =
-    ap (λ l. executed w.memory (record { pc = e.pc; word = e.word }) i (value_or_zero (source_behind dual w.registers l (sources_of i).0)) (value_or_zero (source_behind dual w.registers l (sources_of i).1))) (sym h) in
-    (ap (λ y. y.entry) (sym same), record {
-      instr = i;
-      kind_is = k;
-      not_done = or-false_left e.done (is_stopping e) d;
-      not_stopping = or-false_right e.done (is_stopping e) d;
-      a = value_or_zero s1;
-      b = value_or_zero s2;
-      rs1 = here-is s1 (and-left (is_here s1) (is_here s2) both);
-      rs2 = here-is s2 (and-right (is_here s1) (is_here s2) both);
-      stores = λ l. no-stores (kind_of i) older held l;
-      outcome_is = outcome ∙ ap (λ y. y.outcome) same;
-    })
+    ap (λ l. executed w.memory (record { pc = e.pc; word = e.word }) i (value_or_zero (source_behind dual w.registers l (sources_of i).0)) (value_or_zero (source_behind dual w.registers l (sources_of i).1))) (sym h) in (
+      ap (λ y. y.entry) (sym same),
+      record {
+        instr = i;
+        kind_is = k;
+        not_done = or-false_left e.done (is_stopping e) d;
+        not_stopping = or-false_right e.done (is_stopping e) d;
+        a = value_or_zero s1;
+        b = value_or_zero s2;
+        rs1 = here-is s1 (and-left (is_here s1) (is_here s2) both);
+        rs2 = here-is s2 (and-right (is_here s1) (is_here s2) both);
+        stores = λ l. no-stores (kind_of i) older held l;
+        outcome_is = outcome ∙ ap (λ y. y.outcome) same;
+      },
+    )
 
 reads-kind : (w : Core) (older : List Entry) (e : Entry) (k : EntryKind) (x : Executed) → older_than e.seq w.flight ≡ older → e.kind ≡ k → (e.done || is_stopping e) ≡ false → may_execute_kind w.params.dual_write w.registers older k ≡ true → executed_kind w e k ≡ Some x
     → (x.entry ≡ e) × Reads w.params.dual_write w.registers w.memory older e x.outcome

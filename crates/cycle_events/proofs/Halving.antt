@@ -87,7 +87,7 @@ committing x start hart left at ch r fl es us w range way o g b m =
         let done = cut x start hart left at w k es us vs range gone tie m in
         let P = Committed x start hart left at ch.cut ch.drain (take k es) vs in
         let plain = λ (c : ch.cut ≡ None) (d : ch.drain ≡ None).
-            ap (end_of left.pc) (sym (here es) ∙ ap (λ z. drain_step z (cut_step ch.cut es)) d ∙ ap (λ z. cut_step z es) c) ∙ sym (ends-at x start hart left at es us w m) in
+        ap (end_of left.pc) (sym (here es) ∙ ap (λ z. drain_step z (cut_step ch.cut es)) d ∙ ap (λ z. cut_step z es) c) ∙ sym (ends-at x start hart left at es us w m) in
         rw (q, here es) (next x (Shows x start hart left (take k es) vs (end_of left.pc (take k es))) P w done (λ v s. stays x P v (record { shows = s; plain = plain })))
 
 -- ---- the offer and the registers

@@ -244,7 +244,7 @@ wide-response dual s x e l o ok = go (e.seq == s) refl
           narrow = λ r h.
               let z : (not (r == 0) && may_write_word dual (Some x) (rd_field e.word) r) ≡ true = sym (answered-writes dual e y x r u (ap (λ t. cond t (Some x) e.response) q) refl) ∙ h in
               open-writes dual e r op ∙ and-both (not (r == 0)) (may_write_word dual None (rd_field e.word) r) (and-left (not (r == 0)) (may_write_word dual (Some x) (rd_field e.word) r) z)
-                  (narrow-word dual x (rd_field e.word) r (l at) (and-right (not (r == 0)) (may_write_word dual (Some x) (rd_field e.word) r) z));
+              (narrow-word dual x (rd_field e.word) r (l at) (and-right (not (r == 0)) (may_write_word dual (Some x) (rd_field e.word) r) z));
           wrote = λ r d. absurd (not-both e.done undone d);
           fixed = λ d. absurd (not-both e.done undone d);
         }
