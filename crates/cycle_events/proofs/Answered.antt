@@ -1,6 +1,6 @@
 -- The answer to the word that is offered is an event.
-use Rattle.std.proofs.Common.{◌≡◌, ◌≢◌, ◌==◌, ◌++◌, ℕ, Bool, true, false, cond, List, [], ◌∷◌, map, Option, Some, None, refl, sym, ap, ◌∙◌, subst}
-use Rattle.std.specs.Prelude.{is_some, IsSome}
+use Rattle.std.proofs.Common.{◌≡◌, ◌≢◌, ◌==◌, ◌++◌, ℕ, Bool, true, false, cond, List, ◌∷◌, map, Option, Some, None, refl, sym, ap, ◌∙◌, subst}
+use Rattle.std.specs.Prelude.{IsSome}
 use Rattle.std.proofs.lemmas.Bool.{eqb-true, eq-eqb, ne_eqb}
 use Rattle.xif_base.specs.Params.{IsInRange}
 use Rattle.coproc_config.specs.declared.accept.Hit.{Hit}
@@ -12,20 +12,19 @@ use Rattle.cycle_spec.specs.Flight.{is_open, with_response}
 use Rattle.cycle_spec.specs.Engine.{with_answer}
 use Rattle.cycle_lists.specs.Lists.{Each, Pairs, FirstAt}
 use Rattle.cycle_lists.specs.Order.{Before}
-use Rattle.cycle_lists.proofs.Tests.{not-both, false-or}
-use Rattle.cycle_lists.proofs.Every.{Each-from, Each-both, Each-map, Each-at, Each-front, Each-back, Each-append}
+use Rattle.cycle_lists.proofs.Tests.{not-both}
+use Rattle.cycle_lists.proofs.Every.{Each-both, Each-map, Each-at, Each-front, Each-back, Each-append}
 use Rattle.cycle_paired.specs.Paired.{is_live, IsEntry}
 use Rattle.cycle_paired.proofs.Facts.{open-unreleased}
 use Rattle.ahead_spec.specs.Walk.{Item, entries, path_end}
 use Rattle.ahead_spec.specs.Operands.{word_hit, response_of}
-use Rattle.ahead_spec.specs.World.{World, Spot, answered_with, with_entry, with_item, Answers, happens}
+use Rattle.ahead_spec.specs.World.{World, Spot, answered_with, with_entry, Answers}
 use Rattle.ahead_spec.specs.Guards.{MayAnswer}
-use Rattle.ahead_spec.specs.Invariant.{Agrees, RunsAhead}
 use Rattle.ahead_laws.proofs.Keeping.{agrees-at}
 use Rattle.ahead_laws.proofs.EntryChanges.{with_response-here, with_response-other}
 use Rattle.cycle_events.specs.Becomes.{Becomes}
 use Rattle.cycle_events.specs.Shown.{shown, IsUseOf, Tied, Left, Shows}
-use Rattle.cycle_events.proofs.Moving.{stays, to-items, ItemAt, item-at, path-same, entries-swap, swap}
+use Rattle.cycle_events.proofs.Moving.{stays, to-items, item-at, path-same, entries-swap, swap}
 use Rattle.cycle_events.proofs.Tying.{Tie}
 
 -- what is known of each use where a word is offered: only the offered one has its key, and it had no

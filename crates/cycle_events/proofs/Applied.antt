@@ -1,29 +1,28 @@
 -- The units compute the uses that are complete: each is an event.
-use Rattle.std.proofs.Common.{◌≡◌, ◌≢◌, ◌<◌, ◌≤◌, ◌==◌, ◌&&◌, ◌||◌, ◌+◌, ◌⊎◌, ◌++◌, ℕ, zero, suc, Bool, true, false, cond, not, List, [], ◌∷◌, Option, Some, None, refl, sym, ap, ◌∙◌, subst, append_assoc, append-nil, inl, inr, arith}
-use Rattle.std.specs.Prelude.{is_some, is_none, IsSome, slice_index_or, ⊤}
-use Rattle.std.proofs.lemmas.Bool.{eqb-true, eq-eqb, ne_eqb}
+use Rattle.std.proofs.Common.{◌≡◌, ◌≢◌, ◌==◌, ◌&&◌, ◌||◌, ◌⊎◌, ◌++◌, ℕ, Bool, true, false, cond, not, List, [], ◌∷◌, Option, Some, None, refl, sym, ap, ◌∙◌, subst, append_assoc, inl, inr}
+use Rattle.std.specs.Prelude.{is_some, is_none, IsSome, ⊤}
+use Rattle.std.proofs.lemmas.Bool.{eqb-true, eq-eqb}
 use Rattle.xif_base.specs.Params.{IsInRange}
-use Rattle.coproc_config.specs.Set.{UnitTable}
 use Rattle.coproc_config.specs.Apply.{Outcome}
 use Rattle.inorder_machine.specs.Machine.{Extension, State}
 use Rattle.xif_session.specs.declared.fact.Decision.{Decision}
-use Rattle.xif_session.specs.declared.fact.Decision.TheVariants.{Undecided, Released, Killed}
+use Rattle.xif_session.specs.declared.fact.Decision.TheVariants.{Undecided}
 use Rattle.xif_session.specs.declared.fact.Response.{Response}
 use Rattle.xif_session.specs.Facts.{is_accepted as is_response_accepted, is_released, is_killed}
 use Rattle.cycle_spec.specs.declared.entry.Entry.{Entry}
 use Rattle.cycle_spec.specs.declared.use_of.Use.{Use}
 use Rattle.cycle_spec.specs.Flight.{is_unknown}
-use Rattle.cycle_spec.specs.Engine.{is_accepted, register_read_of, has_operands, is_complete, is_next, outcome_of, outcome_by, with_ready, ready_uses, units_behind, ready_in_harts, units_in_harts}
+use Rattle.cycle_spec.specs.Engine.{is_accepted, register_read_of, has_operands, is_complete, is_next, outcome_of, outcome_by, with_ready, ready_uses, units_behind}
 use Rattle.cycle_lists.specs.Lists.{Each, Pairs}
-use Rattle.cycle_lists.proofs.Tests.{and-left, and-right, not-in, not-both, false-or, true-or, no-some, some-is}
-use Rattle.cycle_lists.proofs.Every.{each, Each-from, Each-both, Each-at, Each-here, Each-append, Each-front, Each-back, Each-filter, Each-passed, Each-unfilter, Pairs-older, Pairs-younger}
+use Rattle.cycle_lists.proofs.Tests.{and-left, and-right, not-in, not-both, false-or, true-or}
+use Rattle.cycle_lists.proofs.Every.{Each-from, Each-both, Each-at, Each-here, Each-append, Each-front, Each-back, Each-filter, Each-passed, Each-unfilter, Pairs-older, Pairs-younger}
 use Rattle.cycle_lists.proofs.Filters.{filter-at, unfilter}
-use Rattle.cycle_paired.specs.Paired.{is_live, live_entries, is_live_use, live_uses, response_of, decision_of, Alike, Match, IsEntry, IsReady, IsUse, Older}
-use Rattle.cycle_paired.proofs.Facts.{accepted-answered, released-unkilled, live-unknown}
+use Rattle.cycle_paired.specs.Paired.{is_live, live_entries, is_live_use, live_uses, decision_of, Alike, Match, IsEntry, IsUse, Older}
+use Rattle.cycle_paired.proofs.Facts.{accepted-answered}
 use Rattle.cycle_paired.proofs.Matching.{joined}
 use Rattle.cycle_paired.proofs.Applying.{Readied, AllReadied, all-itself, all-uses, all-older, all-match}
 use Rattle.ahead_spec.specs.Walk.{Item, entries, path_end}
-use Rattle.ahead_spec.specs.Operands.{word_hit, halves_read, applied_to}
+use Rattle.ahead_spec.specs.Operands.{halves_read, applied_to}
 use Rattle.ahead_spec.specs.World.{World, Spot, Applies}
 use Rattle.ahead_spec.specs.Guards.{MayApply}
 use Rattle.ahead_spec.specs.Invariant.{Agrees, RunsAhead}

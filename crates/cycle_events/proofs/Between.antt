@@ -1,5 +1,5 @@
 -- Before the first cycle, and between two cycles.
-use Rattle.std.proofs.Common.{◌≡◌, ℕ, replicate, length, List, [], ◌∷◌, Option, Some, None, refl, sym, ap, ◌∙◌, subst}
+use Rattle.std.proofs.Common.{◌≡◌, ℕ, List, [], ◌∷◌, refl, sym, ap, ◌∙◌}
 use Rattle.inorder_machine.specs.declared.line.Retire.{Retire}
 use Rattle.inorder_machine.specs.Machine.{State}
 use Rattle.cycle_spec.specs.Cycle.{Machines, cycle}

@@ -1,8 +1,7 @@
 -- What the core chooses in each mode.
-use Rattle.std.proofs.Common.{◌≡◌, ◌&&◌, ◌||◌, ◌+◌, ◌++◌, ℕ, zero, suc, Bool, true, false, cond, not, List, [], ◌∷◌, length, take, drop, Option, Some, None, refl, sym, ap, ◌∙◌, subst, arith}
-use Rattle.std.specs.Prelude.{is_some, IsSome, IfSome, ⊤}
+use Rattle.std.proofs.Common.{◌≡◌, ◌+◌, ◌++◌, ℕ, suc, Bool, true, false, cond, not, List, [], ◌∷◌, length, take, drop, Option, Some, None, refl, sym, ap, ◌∙◌, subst, arith}
+use Rattle.std.specs.Prelude.{is_some, IsSome, IfSome}
 use Rattle.std.specs.Option.{option_or}
-use Rattle.std.specs.List.{last_or}
 use Rattle.rv32_table.specs.declared.instr.Kind.{Kind}
 use Rattle.rv32_table.specs.declared.instr.Kind.TheVariants as row
 use Rattle.rv32_table.specs.Instr.{kind_of}
@@ -17,21 +16,20 @@ use Rattle.cycle_spec.specs.declared.entry.Entry.{Entry}
 use Rattle.cycle_spec.specs.declared.entry.EntryKind.{EntryKind}
 use Rattle.cycle_spec.specs.declared.entry.EntryKind.TheVariants.{Local, Unknown, Nowhere}
 use Rattle.cycle_spec.specs.declared.log.Cut.{Cut}
-use Rattle.cycle_spec.specs.Flight.{is_unknown, is_unknown_kind, is_row, is_store_row, is_control_row, is_store, is_control, is_stopping, is_safe, is_safe_kind, is_safe_row, count_through, youngest_released}
+use Rattle.cycle_spec.specs.Flight.{is_unknown, is_unknown_kind, is_row, is_store_row, is_control_row, is_stopping, is_safe, is_safe_kind, is_safe_row, count_through, youngest_released}
 use Rattle.cycle_spec.specs.State.{Core}
 use Rattle.cycle_spec.specs.Choices.{stop_at, retirement, execution, is_any_hit, store_cut, control_cut, presented_entry, offer_in, presentation_of, choices_with, choices_running, choices_by, choices_draining, choices_drain_begins, stay_with, choices_in, choices}
 use Rattle.cycle_lists.specs.Lists.{Each, Pairs}
 use Rattle.cycle_lists.specs.Order.{Before}
-use Rattle.cycle_lists.proofs.Tests.{and-left, and-right, not-both, false-or, some-is}
+use Rattle.cycle_lists.proofs.Tests.{and-right, not-both, some-is}
 use Rattle.cycle_lists.proofs.Every.{Each-from, Each-at, Each-take, Each-append, Pairs-older}
 use Rattle.cycle_lists.proofs.Places.{last-found}
 use Rattle.cycle_paired.specs.Paired.{IsEntry, Behind}
 use Rattle.cycle_paired.proofs.Facts.{accepted-some}
 use Rattle.cycle_paired.proofs.Choosing.{Facts}
 use Rattle.cycle_events.specs.Shown.{IsCalm}
-use Rattle.cycle_events.proofs.Executed.{Reads}
 use Rattle.cycle_events.proofs.Retired.{Missed}
-use Rattle.cycle_events.proofs.Chosen.{kept, GoesOn, LeadsOn, ReadsAt, RetiresAt, Ends, Plain, Stored, Turned, IsChosen, shows-it, reads-at, reads-all, all-taken, leads-on, uncut-on, TurnedBy, turned-by, taken-through, missed-none, no-hits, storeless}
+use Rattle.cycle_events.proofs.Chosen.{kept, GoesOn, LeadsOn, ReadsAt, RetiresAt, Plain, Stored, Turned, IsChosen, shows-it, reads-at, reads-all, all-taken, leads-on, uncut-on, TurnedBy, turned-by, taken-through, missed-none, no-hits, storeless}
 
 -- ---- the head of a list
 

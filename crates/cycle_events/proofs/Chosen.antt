@@ -1,15 +1,13 @@
 -- What the core chooses, in the words of the guards.
-use Rattle.std.proofs.Common.{◌≡◌, ◌≢◌, ◌⊎◌, ◌==◌, ◌&&◌, ◌||◌, ◌+◌, ◌++◌, ℕ, zero, suc, Bool, true, false, cond, not, List, [], ◌∷◌, length, take, drop, Option, Some, None, refl, sym, ap, ◌∙◌, subst, append_assoc, inl, inr, arith}
-use Rattle.std.specs.Prelude.{find, is_some, IsSome, IfSome, ⊤}
-use Rattle.std.specs.Option.{option_or, option_and_then, option_map}
-use Rattle.std.specs.List.{list_any, last_or}
+use Rattle.std.proofs.Common.{◌≡◌, ◌≢◌, ◌==◌, ◌&&◌, ◌||◌, ◌+◌, ◌++◌, ℕ, suc, Bool, true, false, cond, not, List, [], ◌∷◌, length, take, drop, Option, Some, None, refl, sym, ap, ◌∙◌, subst, append_assoc, arith}
+use Rattle.std.specs.Prelude.{is_some, IfSome}
+use Rattle.std.specs.Option.{option_and_then, option_map}
 use Rattle.std.proofs.lemmas.Bool.{eqb-true, eq-eqb, ne_eqb}
-use Rattle.std.proofs.lemmas.List.{take-append-drop, take_at, take_all}
+use Rattle.std.proofs.lemmas.List.{take-append-drop}
 use Rattle.rv32_table.specs.declared.instr.Instr.{Instr}
 use Rattle.rv32_table.specs.declared.instr.Kind.{Kind}
 use Rattle.rv32_table.specs.declared.instr.Kind.TheVariants as row
 use Rattle.rv32_table.specs.Instr.{kind_of, sources_of}
-use Rattle.xif_image.specs.Region.{Region}
 use Rattle.xif_drive.specs.Predictors.{following}
 use Rattle.inorder_machine.specs.declared.line.Retire.{Retire}
 use Rattle.inorder_machine.specs.declared.line.Store.{Store}
@@ -19,27 +17,24 @@ use Rattle.inorder_machine.specs.declared.stop.StopCause.{StopCause}
 use Rattle.inorder_machine.specs.Execute.{executed}
 use Rattle.cycle_spec.specs.declared.choices.Choices.{Choices}
 use Rattle.cycle_spec.specs.declared.choices.Executed.{Executed}
-use Rattle.cycle_spec.specs.declared.choices.Mode.{Mode}
-use Rattle.cycle_spec.specs.declared.choices.Mode.TheVariants.{Running, DrainBegins, Draining}
-use Rattle.cycle_spec.specs.declared.choices.Presented.{Presented}
+use Rattle.cycle_spec.specs.declared.choices.Mode.TheVariants.{Running}
 use Rattle.cycle_spec.specs.declared.entry.Entry.{Entry}
 use Rattle.cycle_spec.specs.declared.entry.EntryKind.{EntryKind}
 use Rattle.cycle_spec.specs.declared.entry.EntryKind.TheVariants.{Local, Unknown, Nowhere}
 use Rattle.cycle_spec.specs.declared.entry.Operand.{Operand}
 use Rattle.cycle_spec.specs.declared.entry.Operand.TheVariants.{Here, NotYet}
 use Rattle.cycle_spec.specs.declared.log.Cut.{Cut}
-use Rattle.cycle_spec.specs.Flight.{is_unknown, is_row, is_store_row, is_control_row, is_store, is_control, is_stopping, is_pending, is_safe, is_safe_kind, is_safe_row, has_seq, older_than, count_through, source_behind, is_here, value_or_zero, are_sources_here, is_held_back, may_execute_kind, may_execute, ready_behind, ready_oldest, youngest_released}
+use Rattle.cycle_spec.specs.Flight.{is_row, is_control_row, is_store, is_control, is_stopping, older_than, count_through, source_behind, is_here, value_or_zero, are_sources_here, is_held_back, may_execute_kind, may_execute, ready_behind, ready_oldest}
 use Rattle.cycle_spec.specs.State.{Core}
-use Rattle.cycle_spec.specs.Choices.{stop_at, retirement, source_value, outcome_of, executed_kind, executed_entry, execution, is_hit, is_any_hit, store_cut, transfer_cut, control_cut, presented_entry, presentation_of, present_in, choices_with, choices_running, choices_by, choices_draining, choices_drain_begins, stay_with, choices_in, choices}
-use Rattle.cycle_spec.specs.Core.{cut_step, drain_step, line_of}
+use Rattle.cycle_spec.specs.Choices.{outcome_of, executed_kind, executed_entry, execution, is_hit, is_any_hit, transfer_cut, control_cut, presentation_of}
+use Rattle.cycle_spec.specs.Core.{cut_step, drain_step}
 use Rattle.cycle_lists.specs.Lists.{Each, Pairs}
 use Rattle.cycle_lists.specs.Order.{Before}
-use Rattle.cycle_lists.proofs.Tests.{and-left, and-right, not-in, not-both, false-or, true-or, or-false_left, or-false_right, some-is}
-use Rattle.cycle_lists.proofs.Every.{each, Each-from, Each-both, Each-at, Each-here, Each-front, Each-take, Pairs-older}
-use Rattle.cycle_lists.proofs.Places.{any-none, last-found}
-use Rattle.cycle_paired.specs.Paired.{IsEntry, Behind}
+use Rattle.cycle_lists.proofs.Tests.{and-left, and-right, not-in, not-both, or-false_left, or-false_right, some-is}
+use Rattle.cycle_lists.proofs.Every.{each, Each-at}
+use Rattle.cycle_lists.proofs.Places.{any-none}
+use Rattle.cycle_paired.specs.Paired.{IsEntry}
 use Rattle.cycle_paired.proofs.Facts.{other-numbers}
-use Rattle.cycle_paired.proofs.Choosing.{Facts}
 use Rattle.ahead_laws.proofs.Rows.{straight}
 use Rattle.cycle_events.specs.Shown.{IsCalm}
 use Rattle.cycle_events.proofs.Executed.{Reads}

@@ -1,5 +1,5 @@
 -- A whole cycle is events.
-use Rattle.std.proofs.Common.{◌≡◌, ◌&&◌, ◌+◌, ◌++◌, ℕ, Bool, true, false, cond, List, [], ◌∷◌, Option, Some, None, refl, sym, ap, ◌∙◌, subst, arith}
+use Rattle.std.proofs.Common.{◌≡◌, ◌&&◌, ◌+◌, ◌++◌, ℕ, Bool, true, false, cond, List, [], ◌∷◌, Option, Some, None, refl, sym, ap, subst, arith}
 use Rattle.std.specs.Prelude.{is_some, IfSome, slice_index_or}
 use Rattle.std.specs.Option.{option_map}
 use Rattle.std.specs.List.{cons_option}
@@ -7,7 +7,6 @@ use Rattle.xif_base.specs.Params.{IsInRange}
 use Rattle.xif_image.specs.Region.{Region, word_at}
 use Rattle.inorder_machine.specs.declared.line.Retire.{Retire}
 use Rattle.inorder_machine.specs.Machine.{Extension, State}
-use Rattle.xif_signals.specs.declared.bus.Bus.{Bus}
 use Rattle.xif_signals.specs.declared.bus.CpuIn.{CpuIn}
 use Rattle.cycle_spec.specs.declared.choices.Choices.{Choices}
 use Rattle.cycle_spec.specs.declared.choices.Mode.{Mode}
@@ -16,38 +15,35 @@ use Rattle.cycle_spec.specs.declared.entry.Entry.{Entry}
 use Rattle.cycle_spec.specs.declared.use_of.Use.{Use}
 use Rattle.cycle_spec.specs.Flight.{free_id}
 use Rattle.cycle_spec.specs.State.{Core, Engine}
-use Rattle.cycle_spec.specs.Choices.{stop_at, choices_by, choices_in, choices}
-use Rattle.cycle_spec.specs.Core.{line_of, execute_step, retire_step, settled_entries, pc_behind, registers_behind, memory_behind, ahead_behind, ahead_after, entry_at, next_entry, dispatch_of, with_dispatch, mode_after, core_after}
+use Rattle.cycle_spec.specs.Choices.{choices_in, choices}
+use Rattle.cycle_spec.specs.Core.{line_of, execute_step, retire_step, settled_entries, pc_behind, registers_behind, memory_behind, ahead_behind, ahead_after, entry_at, next_entry, dispatch_of, with_dispatch, mode_after}
 use Rattle.cycle_spec.specs.Engine.{offered_use, use_or, writeback_of, response_hit, issue_start, ready_in_harts, units_in_harts}
 use Rattle.cycle_spec.specs.Cycle.{Machines, input_at, cycle}
 use Rattle.cycle_lists.specs.Lists.{Each, Pairs}
 use Rattle.cycle_lists.specs.Order.{Before}
-use Rattle.cycle_lists.proofs.Tests.{not-both, false-or}
 use Rattle.cycle_lists.proofs.Order.{core-kept}
-use Rattle.cycle_paired.specs.Paired.{response_of, IsEntry, Paired}
-use Rattle.cycle_paired.proofs.Facts.{Joint}
+use Rattle.cycle_paired.specs.Paired.{response_of, Paired}
 use Rattle.cycle_paired.proofs.Carrying.{Carries}
 use Rattle.cycle_paired.proofs.Applying.{all-itself}
 use Rattle.cycle_paired.proofs.Choosing.{Sound, sound}
-use Rattle.cycle_paired.proofs.Deciding.{Decided}
-use Rattle.cycle_paired.proofs.Lasting.{Late, Last, carried-at, result_entries, result_uses, waiting_after, late-decided, late-result, late-executed, late-retired, late-last}
-use Rattle.cycle_paired.proofs.Cycling.{facts_of, cpu_for, answers, gives, half_entries, half_uses, Half, half, result_write}
+use Rattle.cycle_paired.proofs.Lasting.{carried-at, result_entries, result_uses, waiting_after, late-decided, late-result, late-executed, late-retired, late-last}
+use Rattle.cycle_paired.proofs.Cycling.{facts_of, cpu_for, answers, gives, half_entries, half_uses, half, result_write}
 use Rattle.cycle_paired.proofs.Same.{settled-is}
 use Rattle.cycle_paired.proofs.Closing.{bus_for, both_after}
 use Rattle.ahead_spec.specs.World.{World}
 use Rattle.cycle_events.specs.Becomes.{Becomes}
-use Rattle.cycle_events.specs.Shown.{IsHeld, Left, left_by, Shows, IsCalm, extension_of, Shown}
+use Rattle.cycle_events.specs.Shown.{Left, left_by, Shows, IsCalm, extension_of, Shown}
 use Rattle.cycle_events.proofs.Moving.{stays, next, end_of}
 use Rattle.cycle_events.proofs.Retired.{dispatches}
 use Rattle.cycle_events.proofs.Applied.{Uses, with_units, Ready}
 use Rattle.cycle_events.proofs.Harts.{in-harts}
-use Rattle.cycle_events.proofs.Wide.{AllWide, all-trans, all-less}
+use Rattle.cycle_events.proofs.Wide.{all-trans, all-less}
 use Rattle.cycle_events.proofs.Chosen.{kept, IsChosen}
 use Rattle.cycle_events.proofs.Choosing.{chosen}
 use Rattle.cycle_events.proofs.Presented.{ext}
-use Rattle.cycle_events.proofs.Halving.{Committed, Halved, halving}
+use Rattle.cycle_events.proofs.Halving.{Halved, halving}
 use Rattle.cycle_events.proofs.Holding.{held-half, held-ended, wide-half, wide-result}
-use Rattle.cycle_events.proofs.Settling.{all-go, resulting, executing, wide-executed, Routed, routed, left_retired, retiring, calm-settled}
+use Rattle.cycle_events.proofs.Settling.{all-go, resulting, executing, wide-executed, routed, left_retired, retiring, calm-settled}
 
 -- ---- what the definitions say of the lists
 

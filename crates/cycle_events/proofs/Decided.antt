@@ -1,6 +1,6 @@
 -- A release and a cut are events.
-use Rattle.std.proofs.Common.{◌≡◌, ◌≢◌, ◌<◌, ◌≤◌, ◌==◌, ◌||◌, ◌++◌, ℕ, Bool, true, false, cond, List, [], ◌∷◌, map, take, drop, Option, Some, None, refl, sym, ap, ◌∙◌, subst, arith}
-use Rattle.std.specs.Prelude.{is_some, nat_le}
+use Rattle.std.proofs.Common.{◌≡◌, ◌<◌, ◌||◌, ◌++◌, ℕ, Bool, true, false, cond, List, [], ◌∷◌, map, take, drop, Option, Some, None, refl, sym, ap, ◌∙◌, subst, arith}
+use Rattle.std.specs.Prelude.{is_some}
 use Rattle.std.specs.Option.{option_or}
 use Rattle.std.proofs.lemmas.List.{map-append, take-append-drop}
 use Rattle.xif_base.specs.Params.{IsInRange}
@@ -18,7 +18,7 @@ use Rattle.cycle_lists.proofs.Tests.{le-out, le-above}
 use Rattle.cycle_lists.proofs.Every.{Each-from, Each-append, Each-front, Each-back, Each-take, Pairs-older, Pairs-younger}
 use Rattle.cycle_paired.proofs.Deciding.{decided_for}
 use Rattle.ahead_spec.specs.Walk.{Item, entries, leads_to, path_end}
-use Rattle.ahead_spec.specs.World.{World, Spot, released_of, released_item, with_flight, Releases, Drops, happens}
+use Rattle.ahead_spec.specs.World.{World, Spot, released_of, released_item, Releases, Drops}
 use Rattle.ahead_spec.specs.Guards.{MayRelease, MayDrop}
 use Rattle.ahead_laws.proofs.Retiring.{keeps}
 use Rattle.ahead_laws.proofs.EntryChanges.{with_release-older, with_release-younger}

@@ -1,5 +1,5 @@
 -- An execution is an event.
-use Rattle.std.proofs.Common.{◌≡◌, ◌≢◌, ◌⊎◌, ◌++◌, ℕ, Bool, true, false, List, [], ◌∷◌, map, Option, Some, None, refl, sym, ap, ◌∙◌, subst, inl, inr, if◌then◌else◌}
+use Rattle.std.proofs.Common.{◌≡◌, ◌≢◌, ◌⊎◌, ◌++◌, ℕ, Bool, false, List, [], ◌∷◌, map, refl, sym, ap, ◌∙◌, subst, inl, inr, if◌then◌else◌}
 use Rattle.std.proofs.lemmas.Bool.{ne_eqb}
 use Rattle.rv32_table.specs.declared.instr.Instr.{Instr}
 use Rattle.rv32_table.specs.declared.instr.Kind.TheVariants as row
@@ -9,7 +9,6 @@ use Rattle.xif_image.specs.Region.{Region}
 use Rattle.inorder_machine.specs.declared.line.Retire.{Retire}
 use Rattle.inorder_machine.specs.declared.line.Stepped.{Stepped}
 use Rattle.inorder_machine.specs.declared.line.Stepped.TheVariants.{Retired, Stop}
-use Rattle.inorder_machine.specs.declared.stop.StopCause.{StopCause}
 use Rattle.inorder_machine.specs.Execute.{executed}
 use Rattle.inorder_machine.specs.Machine.{Extension, State}
 use Rattle.cycle_spec.specs.declared.entry.Entry.{Entry}
@@ -23,12 +22,12 @@ use Rattle.cycle_lists.proofs.Every.{Each-append, Each-front, Each-back}
 use Rattle.cycle_paired.proofs.Facts.{done-dead}
 use Rattle.ahead_spec.specs.Walk.{Item, entries, leads_to, IsPath, path_end}
 use Rattle.ahead_spec.specs.World.{World, Spot, executed_with, halted_with, with_entry, Executes, Halts}
-use Rattle.ahead_spec.specs.Guards.{MayExecute, MayExecuteTo}
+use Rattle.ahead_spec.specs.Guards.{MayExecute}
 use Rattle.ahead_laws.proofs.Walks.{path-at}
 use Rattle.ahead_laws.proofs.EntryChanges.{with_line-here, with_line-other, with_stop-here, with_stop-other}
 use Rattle.cycle_events.specs.Becomes.{Becomes}
 use Rattle.cycle_events.specs.Shown.{Tied, Left, Shows}
-use Rattle.cycle_events.proofs.Moving.{to-items, ItemAt, item-at, path-same, path-last, entries-swap, swap}
+use Rattle.cycle_events.proofs.Moving.{to-items, item-at, path-same, path-last, entries-swap, swap}
 use Rattle.cycle_events.proofs.Tying.{tied-dead, tied-item}
 
 -- an instruction of RV32IM that may execute, on registers and a memory, with its outcome

@@ -1,6 +1,6 @@
 -- The result that is taken is an event.
-use Rattle.std.proofs.Common.{◌≡◌, ◌≢◌, ◌++◌, ℕ, Bool, true, false, List, [], ◌∷◌, map, Option, Some, None, refl, sym, ap, ◌∙◌, subst, if◌then◌else◌}
-use Rattle.std.specs.Prelude.{is_some, IsSome}
+use Rattle.std.proofs.Common.{◌≡◌, ◌≢◌, ◌++◌, ℕ, true, false, List, ◌∷◌, map, Option, Some, None, refl, sym, ap, ◌∙◌, subst, if◌then◌else◌}
+use Rattle.std.specs.Prelude.{IsSome}
 use Rattle.std.proofs.lemmas.Bool.{ne_eqb}
 use Rattle.rv32_table.specs.Instr.{rd_field}
 use Rattle.xif_base.specs.Params.{IsInRange}
@@ -18,7 +18,7 @@ use Rattle.cycle_lists.proofs.Every.{Each-at, Each-append, Each-front, Each-back
 use Rattle.cycle_paired.specs.Paired.{is_live}
 use Rattle.cycle_paired.proofs.Facts.{live-undone, done-dead}
 use Rattle.cycle_paired.proofs.Carrying.{Carries}
-use Rattle.ahead_spec.specs.Walk.{Item, entries, leads_to, path_end}
+use Rattle.ahead_spec.specs.Walk.{entries, leads_to, path_end}
 use Rattle.ahead_spec.specs.World.{World, Spot, finished_with, result_write, with_entry, Finishes}
 use Rattle.ahead_spec.specs.Guards.{MayFinish}
 use Rattle.ahead_laws.proofs.Keeping.{agrees-at}

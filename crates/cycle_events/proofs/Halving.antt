@@ -1,14 +1,11 @@
 -- The first half of a cycle, up to its commit, is events.
-use Rattle.std.proofs.Common.{◌≡◌, ◌≢◌, ◌<◌, ◌&&◌, ◌+◌, ◌++◌, ℕ, Bool, true, false, cond, not, List, [], ◌∷◌, map, take, drop, Option, Some, None, refl, sym, ap, ◌∙◌, subst, arith}
+use Rattle.std.proofs.Common.{◌≡◌, ◌≢◌, ◌&&◌, ◌+◌, ◌++◌, ℕ, Bool, true, false, cond, not, List, ◌∷◌, map, take, drop, Option, Some, None, refl, sym, ap, ◌∙◌, subst}
 use Rattle.std.specs.Prelude.{is_some, IfSome}
-use Rattle.std.proofs.lemmas.List.{take-append-drop}
 use Rattle.xif_base.specs.Params.{IsInRange}
 use Rattle.xif_base.specs.declared.params.Key.{Key}
 use Rattle.coproc_config.specs.declared.accept.Hit.{Hit}
-use Rattle.coproc_config.specs.Set.{UnitTable}
 use Rattle.coproc_config.specs.Accept.{hit_of}
 use Rattle.inorder_machine.specs.Machine.{Extension, State}
-use Rattle.xif_signals.specs.declared.bus.CpuOut.{CpuOut}
 use Rattle.xif_session.specs.Facts.{is_accepted}
 use Rattle.xif_session.specs.Tests.{is_within}
 use Rattle.cycle_spec.specs.declared.choices.Choices.{Choices}
@@ -16,28 +13,26 @@ use Rattle.cycle_spec.specs.declared.choices.Presented.{Presented}
 use Rattle.cycle_spec.specs.declared.entry.Entry.{Entry}
 use Rattle.cycle_spec.specs.declared.log.Cut.{Cut}
 use Rattle.cycle_spec.specs.declared.use_of.Use.{Use}
-use Rattle.cycle_spec.specs.Flight.{is_unknown, is_open, is_waiting, is_safe, with_response, with_sent, with_release, free_id}
-use Rattle.cycle_spec.specs.State.{Core, Engine}
+use Rattle.cycle_spec.specs.Flight.{is_open, is_safe, with_response, with_sent, with_release, free_id}
 use Rattle.cycle_spec.specs.Choices.{flags_of, presentation_of}
 use Rattle.cycle_spec.specs.Core.{id_in, word_in, presented_id, presented_flags, release_step, cut_step, drain_step}
-use Rattle.cycle_spec.specs.Engine.{register_read_of, latest, with_answer, with_operands, given_to, lanes_on, issue_start, offered_hit, issue_ready, response_hit, register_ready, register_use, started_uses, start_step, goes_on}
+use Rattle.cycle_spec.specs.Engine.{register_read_of, latest, with_answer, lanes_on, issue_start, offered_hit, issue_ready, response_hit, register_ready, started_uses, start_step, goes_on}
 use Rattle.cycle_spec.specs.Cycle.{Machines, hart_if}
 use Rattle.cycle_lists.specs.Lists.{Each, Pairs, FirstAt}
 use Rattle.cycle_lists.specs.Order.{Before}
 use Rattle.cycle_lists.proofs.Tests.{not-both, and-left}
-use Rattle.cycle_lists.proofs.Every.{Each-from, Each-both, Each-at, Each-front, Each-drop}
-use Rattle.cycle_lists.proofs.Order.{Kept, mapped, leaves-sent}
-use Rattle.cycle_paired.specs.Paired.{is_live, response_of, IsEntry, Behind, Older, Paired}
-use Rattle.cycle_paired.proofs.Facts.{Joint, open-unknown, accepted-some, some-closed, waiting-live, only}
-use Rattle.cycle_paired.proofs.Carrying.{older-map, leaves-operands}
-use Rattle.cycle_paired.proofs.Starting.{started_in, OffersWord}
+use Rattle.cycle_lists.proofs.Every.{Each-both, Each-at, Each-front}
+use Rattle.cycle_lists.proofs.Order.{mapped, leaves-sent}
+use Rattle.cycle_paired.specs.Paired.{response_of, IsEntry, Paired}
+use Rattle.cycle_paired.proofs.Facts.{open-unknown, accepted-some, some-closed, waiting-live, only}
+use Rattle.cycle_paired.proofs.Starting.{OffersWord}
 use Rattle.cycle_paired.proofs.Answering.{mark}
-use Rattle.cycle_paired.proofs.Growing.{AllGrown, grown-same, grown-sent, grown-drop, grown-at, Each-grown, OnlyOpen, only-open, safe-grown}
+use Rattle.cycle_paired.proofs.Growing.{AllGrown, grown-sent, grown-drop, grown-at, Each-grown, OnlyOpen, only-open, safe-grown}
 use Rattle.cycle_paired.proofs.Releasing.{undecided-accepted}
-use Rattle.cycle_paired.proofs.Choosing.{Unreleased, Facts, CertainAt, Way, Quiet, Releases, Cuts, Presents, Sound}
+use Rattle.cycle_paired.proofs.Choosing.{Unreleased, Way, Quiet, Releases, Cuts, Presents, Sound}
 use Rattle.cycle_paired.proofs.Staging.{Stage, OfferedStage, stage-offered, stage-quiet}
 use Rattle.cycle_paired.proofs.Deciding.{decided_for}
-use Rattle.cycle_paired.proofs.Cycling.{facts_of, joint_of, sent_entries, sent_uses, cpu_for, answers, gives, answer_on, answered_list, answered_with, half_entries, half_uses}
+use Rattle.cycle_paired.proofs.Cycling.{joint_of, sent_entries, sent_uses, cpu_for, answers, gives, answer_on, answered_list, answered_with, half_entries, half_uses}
 use Rattle.ahead_spec.specs.Walk.{Item, entries}
 use Rattle.ahead_spec.specs.Operands.{word_hit, halves_read}
 use Rattle.ahead_spec.specs.World.{World}
@@ -45,8 +40,8 @@ use Rattle.cycle_events.specs.Becomes.{Becomes}
 use Rattle.cycle_events.specs.Shown.{Tied, Left, Shows}
 use Rattle.cycle_events.proofs.Moving.{stays, next, end_of, end-of}
 use Rattle.cycle_events.proofs.Decided.{tied-decided, released, cut, told}
-use Rattle.cycle_events.proofs.Wide.{AllWide, all-trans, all-take, all-same, all-sent, all-release, all-response}
-use Rattle.cycle_events.proofs.Chosen.{kept, IsChosen}
+use Rattle.cycle_events.proofs.Wide.{AllWide, all-same, all-response}
+use Rattle.cycle_events.proofs.Chosen.{IsChosen}
 use Rattle.cycle_events.proofs.Starting.{started, live-ids, answering}
 use Rattle.cycle_events.proofs.Presented.{ext, within-split, within-unsplit, named-hit, PlaceAt, Reaches, sending}
 

@@ -1,5 +1,5 @@
 -- The uses of all harts: those of others leave the machine that runs ahead of this one as it is.
-use Rattle.std.proofs.Common.{◌≡◌, ◌≢◌, ◌<◌, ◌==◌, ◌&&◌, ◌+◌, ◌++◌, ℕ, zero, suc, Bool, true, false, cond, not, List, [], ◌∷◌, refl, sym, ap, ◌∙◌, subst, arith}
+use Rattle.std.proofs.Common.{◌≡◌, ◌≢◌, ◌<◌, ◌==◌, ◌&&◌, ◌+◌, ℕ, zero, suc, Bool, true, false, cond, not, List, [], ◌∷◌, refl, sym, ap, ◌∙◌, subst, arith}
 use Rattle.std.specs.Prelude.{is_none, slice_index_or}
 use Rattle.std.proofs.lemmas.Bool.{eqb-true, ne_eqb}
 use Rattle.xif_base.specs.Params.{IsInRange}
@@ -19,10 +19,9 @@ use Rattle.cycle_paired.proofs.Applying.{all-harts}
 use Rattle.ahead_spec.specs.Walk.{Item}
 use Rattle.ahead_spec.specs.World.{World}
 use Rattle.cycle_events.specs.Becomes.{Becomes}
-use Rattle.cycle_events.specs.Shown.{Tied, IsHeld, Left, Shows}
+use Rattle.cycle_events.specs.Shown.{Tied, IsHeld, Left}
 use Rattle.cycle_events.proofs.Moving.{stays, next}
-use Rattle.cycle_events.proofs.Tying.{Tie}
-use Rattle.cycle_events.proofs.Applied.{Uses, with_units, uses-readied, Ready, computes}
+use Rattle.cycle_events.proofs.Applied.{with_units, uses-readied, Ready, computes}
 
 next-hart : (hart : ℕ) (u : Use) → is_next hart u ≡ true → u.key.hart ≡ hart
 next-hart hart u n = eqb-true u.key.hart hart (and-left (u.key.hart == hart) (is_accepted u && (not (is_killed u.decision) && is_none u.ready)) n)

@@ -1,13 +1,10 @@
 -- What is held of each use, over the steps of a cycle; and what its steps leave of each entry.
-use Rattle.std.proofs.Common.{◌≡◌, ◌≢◌, ◌==◌, ◌&&◌, ◌||◌, ◌+◌, ◌++◌, ℕ, Bool, true, false, cond, not, List, [], ◌∷◌, map, take, Option, Some, None, refl, sym, ap, ◌∙◌, subst, arith}
-use Rattle.std.specs.Prelude.{find, is_some, IsSome, IfSome}
+use Rattle.std.proofs.Common.{◌≡◌, ◌==◌, ◌&&◌, ◌||◌, ◌++◌, ℕ, Bool, true, false, cond, List, ◌∷◌, map, take, Option, Some, None, refl, sym, ap, ◌∙◌, subst, arith}
+use Rattle.std.specs.Prelude.{is_some, IsSome, IfSome}
 use Rattle.std.specs.Option.{option_or}
-use Rattle.std.proofs.lemmas.Bool.{eqb-true, eqb-false}
-use Rattle.rv32_table.specs.Instr.{rd_field}
+use Rattle.std.proofs.lemmas.Bool.{eqb-true}
 use Rattle.xif_base.specs.Params.{IsInRange}
-use Rattle.coproc_config.specs.declared.accept.Hit.{Hit}
 use Rattle.coproc_config.specs.Accept.{hit_of}
-use Rattle.inorder_machine.specs.Units.{unit_write}
 use Rattle.inorder_machine.specs.declared.line.Write.{Write}
 use Rattle.xif_signals.specs.declared.bus.CpuOut.{CpuOut}
 use Rattle.xif_session.specs.Facts.{is_undecided}
@@ -16,16 +13,16 @@ use Rattle.cycle_spec.specs.declared.choices.Presented.{Presented}
 use Rattle.cycle_spec.specs.declared.entry.Entry.{Entry}
 use Rattle.cycle_spec.specs.declared.log.Cut.{Cut}
 use Rattle.cycle_spec.specs.declared.use_of.Use.{Use}
-use Rattle.cycle_spec.specs.Flight.{is_open, holds_id, with_response, with_result}
+use Rattle.cycle_spec.specs.Flight.{is_open, with_response}
 use Rattle.cycle_spec.specs.State.{Engine}
-use Rattle.cycle_spec.specs.Core.{id_in, word_in, sent_on_present, release_step, cut_step, drain_step}
-use Rattle.cycle_spec.specs.Engine.{has_start, latest, with_answer, with_operands, given_to, lanes_on, with_decision, decided_by, with_end, ended, issue_start, issue_key, offered_hit, issue_ready, response_hit, starts, started_uses, offered_use, use_or, writeback_of}
+use Rattle.cycle_spec.specs.Core.{id_in, word_in, release_step, cut_step, drain_step}
+use Rattle.cycle_spec.specs.Engine.{latest, with_operands, given_to, lanes_on, with_decision, decided_by, with_end, issue_start, issue_key, offered_hit, issue_ready, starts, started_uses}
 use Rattle.cycle_spec.specs.Cycle.{Machines, hart_if}
 use Rattle.cycle_lists.specs.Lists.{Each, Pairs, FirstAt}
 use Rattle.cycle_lists.specs.Order.{Before}
-use Rattle.cycle_lists.proofs.Tests.{or-false_left, or-false_right, or-cases, not-both}
-use Rattle.cycle_lists.proofs.Every.{Each-from, Each-both, Each-map, Each-map2, Each-append, Pairs-older, Pairs-younger}
-use Rattle.cycle_paired.specs.Paired.{is_live, response_of, IsEntry, Older, Paired}
+use Rattle.cycle_lists.proofs.Tests.{or-false_left, or-false_right, or-cases}
+use Rattle.cycle_lists.proofs.Every.{Each-from, Each-map, Each-map2, Each-append, Pairs-older, Pairs-younger}
+use Rattle.cycle_paired.specs.Paired.{response_of, Older, Paired}
 use Rattle.cycle_paired.proofs.Facts.{Joint, only, live-undone}
 use Rattle.cycle_paired.proofs.Carrying.{Carries}
 use Rattle.cycle_paired.proofs.Finishing.{finishing}
@@ -33,7 +30,7 @@ use Rattle.cycle_paired.proofs.Growing.{only-open}
 use Rattle.cycle_paired.proofs.Choosing.{Sound}
 use Rattle.cycle_paired.proofs.Deciding.{decided_for}
 use Rattle.cycle_paired.proofs.Lasting.{result_with, result_entries, result_uses}
-use Rattle.cycle_paired.proofs.Cycling.{sent_entries, sent_uses, cpu_for, answers, gives, answer_on, answered_list, answered_with, half_entries, half_uses, result_write}
+use Rattle.cycle_paired.proofs.Cycling.{sent_entries, sent_uses, cpu_for, answers, gives, answer_on, answered_list, answered_with, half_entries, half_uses}
 use Rattle.ahead_spec.specs.Operands.{word_hit}
 use Rattle.cycle_events.specs.Shown.{IsHeld}
 use Rattle.cycle_events.proofs.Wide.{AllWide, all-trans, all-take, all-same, all-sent, all-release, all-response, all-result}

@@ -1,12 +1,12 @@
 -- Events one after another, and what an event at one place leaves.
-use Rattle.std.proofs.Common.{◌≡◌, ◌≢◌, ◌++◌, ℕ, zero, suc, Bool, true, false, cond, List, [], ◌∷◌, map, take, drop, refl, sym, ap, ◌∙◌, subst}
+use Rattle.std.proofs.Common.{◌≡◌, ◌≢◌, ◌++◌, ℕ, zero, suc, List, [], ◌∷◌, map, take, drop, refl, sym, ap, ◌∙◌, subst}
 use Rattle.xif_base.specs.Params.{IsInRange}
 use Rattle.inorder_machine.specs.Machine.{Extension, State}
 use Rattle.cycle_spec.specs.declared.entry.Entry.{Entry}
 use Rattle.cycle_spec.specs.declared.use_of.Use.{Use}
 use Rattle.cycle_lists.specs.Lists.{Each, Pairs}
 use Rattle.cycle_lists.specs.Order.{Before}
-use Rattle.cycle_lists.proofs.Every.{Each-from, Each-append}
+use Rattle.cycle_lists.proofs.Every.{Each-from}
 use Rattle.cycle_lists.proofs.Places.{map-at}
 use Rattle.cycle_paired.proofs.Facts.{other-numbers}
 use Rattle.ahead_spec.specs.Walk.{Item, entries, leads_to, path_end}
@@ -15,7 +15,7 @@ use Rattle.ahead_spec.specs.Guards.{May, MayRun}
 use Rattle.ahead_spec.specs.Invariant.{RunsAhead}
 use Rattle.ahead_laws.proofs.Retiring.{keeps}
 use Rattle.cycle_events.specs.Becomes.{Becomes}
-use Rattle.cycle_events.specs.Shown.{Tied, Left, left_in, Shows}
+use Rattle.cycle_events.specs.Shown.{Tied, Left, Shows}
 
 -- ---- lists of events
 

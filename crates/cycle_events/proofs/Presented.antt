@@ -1,6 +1,6 @@
 -- What is sent on the register channel is what the word reads.
-use Rattle.std.proofs.Common.{◌≡◌, ◌≢◌, ◌==◌, ◌&&◌, ◌++◌, ℕ, Bool, true, false, cond, not, List, [], ◌∷◌, map, Option, Some, None, refl, sym, ap, ◌∙◌, subst, arith}
-use Rattle.std.specs.Prelude.{is_some, IfSome, slice_index, bit_and}
+use Rattle.std.proofs.Common.{◌≡◌, ◌==◌, ◌&&◌, ◌++◌, ℕ, Bool, true, false, cond, not, List, [], ◌∷◌, map, Option, Some, None, refl, sym, ap, ◌∙◌, subst, arith}
+use Rattle.std.specs.Prelude.{IfSome, slice_index, bit_and}
 use Rattle.std.proofs.lemmas.Bool.{eq-eqb}
 use Rattle.std.proofs.lemmas.Nat.{and_le_r}
 use Rattle.xif_base.specs.Params.{IsInRange}
@@ -14,22 +14,20 @@ use Rattle.cycle_spec.specs.declared.choices.Presented.{Presented}
 use Rattle.cycle_spec.specs.declared.entry.Entry.{Entry}
 use Rattle.cycle_spec.specs.declared.entry.Operand.TheVariants.{Here}
 use Rattle.cycle_spec.specs.declared.use_of.Use.{Use}
-use Rattle.cycle_spec.specs.Flight.{is_unknown_kind, is_unknown, is_open, is_waiting, older_than, value_or_zero, with_sent}
+use Rattle.cycle_spec.specs.Flight.{is_unknown_kind, is_unknown, value_or_zero, with_sent}
 use Rattle.cycle_spec.specs.Turns.{turn_of, is_past}
 use Rattle.cycle_spec.specs.State.{Core, Engine}
 use Rattle.cycle_spec.specs.Choices.{half_of, flags_of, lane_of, presentation_of}
-use Rattle.cycle_spec.specs.Core.{presented_id, presented_lane, presented_flags}
+use Rattle.cycle_spec.specs.Core.{presented_lane}
 use Rattle.cycle_spec.specs.Engine.{has_key, is_accepted, register_read_of, latest, may_answer, may_take, given_to, issue_ready, issue_start, offered_hit, register_ready, register_use, register_start}
-use Rattle.cycle_spec.specs.Cycle.{hart_if}
-use Rattle.cycle_lists.specs.Lists.{Each, Pairs, FirstAt}
+use Rattle.cycle_lists.specs.Lists.{Each, Pairs}
 use Rattle.cycle_lists.specs.Order.{Before}
-use Rattle.cycle_lists.proofs.Tests.{and-left, and-right, not-both}
+use Rattle.cycle_lists.proofs.Tests.{and-left, and-right}
 use Rattle.cycle_lists.proofs.Every.{Each-at}
 use Rattle.cycle_lists.proofs.Places.{last-found}
 use Rattle.std.proofs.lemmas.Bool.{eqb-true}
 use Rattle.cycle_paired.specs.Paired.{is_live, IsEntry, Older}
 use Rattle.cycle_paired.proofs.Cycling.{sent_entries, sent_uses}
-use Rattle.ahead_spec.specs.Walk.{Item, entries}
 use Rattle.ahead_spec.specs.Operands.{word_hit, halves_read, half_behind}
 use Rattle.ahead_spec.specs.World.{World}
 use Rattle.ahead_laws.proofs.Presenting.{presented}

@@ -1,8 +1,6 @@
 -- A retirement and a dispatch are events.
-use Rattle.std.proofs.Common.{◌≡◌, ◌++◌, ℕ, Bool, true, false, List, [], ◌∷◌, drop, Option, Some, None, refl, sym, ap, ◌∙◌, subst, if◌then◌else◌}
-use Rattle.std.specs.Prelude.{is_some, IsSome, ⊤}
-use Rattle.rv32_table.specs.declared.instr.Instr.{Instr}
-use Rattle.rv32_table.specs.Instr.{kind_of}
+use Rattle.std.proofs.Common.{◌≡◌, ◌++◌, ℕ, true, false, List, [], ◌∷◌, Option, Some, None, refl, sym, ap, ◌∙◌, subst, if◌then◌else◌}
+use Rattle.std.specs.Prelude.{⊤}
 use Rattle.xif_base.specs.Params.{IsInRange}
 use Rattle.xif_image.specs.Region.{Region, word_at}
 use Rattle.inorder_machine.specs.declared.line.Store.{Store}
@@ -19,10 +17,10 @@ use Rattle.cycle_spec.specs.Choices.{is_hit}
 use Rattle.cycle_spec.specs.Core.{line_of, entry_at}
 use Rattle.cycle_lists.specs.Lists.{Each}
 use Rattle.cycle_lists.proofs.Every.{each, Each-from, Each-push}
-use Rattle.ahead_spec.specs.Walk.{Item, entries, leads_to, outcome, Walked, path_end}
+use Rattle.ahead_spec.specs.Walk.{Item, entries, outcome, Walked, path_end}
 use Rattle.ahead_spec.specs.World.{World, Retires, Dispatches, new_item}
 use Rattle.ahead_spec.specs.Guards.{MayRetire}
-use Rattle.ahead_spec.specs.Invariant.{Agrees, RunsAhead}
+use Rattle.ahead_spec.specs.Invariant.{Agrees}
 use Rattle.ahead_laws.proofs.Rows.{fitting}
 use Rattle.ahead_laws.proofs.Fetches.{word-stays}
 use Rattle.ahead_laws.proofs.Outcomes.{entry-outcome-local, outcome-nowhere}

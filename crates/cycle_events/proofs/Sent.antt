@@ -1,5 +1,5 @@
 -- The register handshake is an event.
-use Rattle.std.proofs.Common.{◌≡◌, ◌≢◌, ◌==◌, ◌||◌, ◌++◌, ℕ, Bool, true, false, cond, IsTrue, List, [], ◌∷◌, map, Option, Some, None, refl, sym, ap, ◌∙◌, subst}
+use Rattle.std.proofs.Common.{◌≡◌, ◌≢◌, ◌==◌, ◌||◌, ◌++◌, ℕ, Bool, true, false, cond, IsTrue, List, ◌∷◌, map, Option, Some, None, refl, sym, ap, ◌∙◌, subst}
 use Rattle.std.proofs.lemmas.Bool.{eqb-true, eq-eqb, ne_eqb}
 use Rattle.xif_base.specs.Params.{IsInRange}
 use Rattle.inorder_machine.specs.declared.units.Half.{Half}
@@ -12,7 +12,7 @@ use Rattle.cycle_spec.specs.Flight.{is_unknown, with_sent}
 use Rattle.cycle_spec.specs.Engine.{has_key, latest, with_operands, given_to}
 use Rattle.cycle_lists.specs.Lists.{Each, Pairs}
 use Rattle.cycle_lists.specs.Order.{Before}
-use Rattle.cycle_lists.proofs.Tests.{and-right, or-true, some-is, none-some}
+use Rattle.cycle_lists.proofs.Tests.{and-right, some-is, none-some}
 use Rattle.cycle_lists.proofs.Every.{each, Each-from, Each-both, Each-map, Each-append, Each-front, Each-back}
 use Rattle.cycle_lists.proofs.Places.{last-found}
 use Rattle.cycle_paired.specs.Paired.{is_live, IsEntry, Older}

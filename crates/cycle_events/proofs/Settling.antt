@@ -1,16 +1,13 @@
 -- The second half of a cycle, behind its commit: each step of it is an event.
-use Rattle.std.proofs.Common.{◌≡◌, ◌≢◌, ◌⊎◌, ◌==◌, ◌&&◌, ◌+◌, ◌++◌, ℕ, Bool, true, false, cond, not, List, [], ◌∷◌, map, drop, Option, Some, None, refl, sym, ap, ◌∙◌, subst, inl, inr}
-use Rattle.std.specs.Prelude.{find, is_some, IsSome, IfSome, ⊤}
+use Rattle.std.proofs.Common.{◌≡◌, ◌⊎◌, ◌==◌, ◌+◌, ℕ, Bool, true, false, cond, List, [], ◌∷◌, map, drop, Option, Some, None, refl, sym, ap, ◌∙◌, subst, inl, inr}
+use Rattle.std.specs.Prelude.{is_some, IfSome}
 use Rattle.std.specs.List.{list_any, range_with_len}
 use Rattle.std.proofs.lemmas.Bool.{eqb-true}
-use Rattle.rv32_table.specs.Instr.{kind_of, rd_field}
 use Rattle.xif_base.specs.Params.{IsInRange}
 use Rattle.coproc_config.specs.Set.{UnitTable}
-use Rattle.xif_image.specs.Region.{Region, word_at}
+use Rattle.xif_image.specs.Region.{Region}
 use Rattle.xif_drive.specs.Predictors.{following}
-use Rattle.inorder_machine.specs.declared.line.Retire.{Retire}
 use Rattle.inorder_machine.specs.declared.line.Store.{Store}
-use Rattle.inorder_machine.specs.declared.line.Write.{Write}
 use Rattle.inorder_machine.specs.declared.line.Stepped.{Stepped}
 use Rattle.inorder_machine.specs.declared.line.Stepped.TheVariants.{Retired, Stop}
 use Rattle.inorder_machine.specs.Execute.{executed}
@@ -22,38 +19,35 @@ use Rattle.cycle_spec.specs.declared.choices.Mode.TheVariants.{Running, DrainBeg
 use Rattle.cycle_spec.specs.declared.entry.Entry.{Entry}
 use Rattle.cycle_spec.specs.declared.entry.EntryKind.{EntryKind}
 use Rattle.cycle_spec.specs.declared.entry.EntryKind.TheVariants.{Local, Unknown, Nowhere}
-use Rattle.cycle_spec.specs.declared.log.Cut.{Cut}
 use Rattle.cycle_spec.specs.declared.use_of.Use.{Use}
-use Rattle.cycle_spec.specs.Flight.{is_unknown, is_unknown_kind, is_row, is_store_row, is_store, is_control_row, is_control, is_stopping, holds_id, with_result, with_outcome}
+use Rattle.cycle_spec.specs.Flight.{is_unknown, is_unknown_kind, is_row, is_store_row, is_store, is_control_row, holds_id, with_outcome}
 use Rattle.cycle_spec.specs.State.{Core}
-use Rattle.cycle_spec.specs.Choices.{is_in_word, is_hit}
+use Rattle.cycle_spec.specs.Choices.{is_in_word}
 use Rattle.cycle_spec.specs.Core.{line_of, execute_step, retire_step, ahead_behind}
-use Rattle.cycle_spec.specs.Engine.{writeback_of, use_or}
 use Rattle.cycle_lists.specs.Lists.{Each, Pairs}
 use Rattle.cycle_lists.specs.Order.{Before}
-use Rattle.cycle_lists.proofs.Tests.{and-right, not-both}
-use Rattle.cycle_lists.proofs.Every.{Each-from, Each-at, Each-here}
+use Rattle.cycle_lists.proofs.Tests.{and-right}
+use Rattle.cycle_lists.proofs.Every.{Each-here}
 use Rattle.cycle_lists.proofs.Places.{first-at}
-use Rattle.cycle_paired.specs.Paired.{is_live}
 use Rattle.cycle_paired.proofs.Facts.{Joint}
 use Rattle.cycle_paired.proofs.Carrying.{Carries}
 use Rattle.cycle_paired.proofs.Finishing.{finishing}
-use Rattle.cycle_paired.proofs.Executing.{Exec, Execs}
+use Rattle.cycle_paired.proofs.Executing.{Execs}
 use Rattle.cycle_paired.proofs.Lasting.{result_with, result_entries, result_uses}
 use Rattle.cycle_paired.proofs.Cycling.{result_write}
-use Rattle.ahead_spec.specs.Walk.{Item, entries, leads_to, outcome}
+use Rattle.ahead_spec.specs.Walk.{Item, outcome}
 use Rattle.ahead_spec.specs.World.{World}
-use Rattle.ahead_spec.specs.Invariant.{Agrees, RunsAhead}
+use Rattle.ahead_spec.specs.Invariant.{Agrees}
 use Rattle.ahead_laws.proofs.Walks.{walked-each}
 use Rattle.ahead_laws.proofs.Rows.{straight}
 use Rattle.ahead_laws.proofs.Outcomes.{entry-outcome-local, outcome-nowhere}
 use Rattle.cycle_events.specs.Becomes.{Becomes}
-use Rattle.cycle_events.specs.Shown.{Tied, Left, Shows, IsCalm}
+use Rattle.cycle_events.specs.Shown.{Left, Shows, IsCalm}
 use Rattle.cycle_events.proofs.Moving.{stays, to-entries, end_of}
 use Rattle.cycle_events.proofs.Finished.{finished}
 use Rattle.cycle_events.proofs.Executed.{Reads, Route, executes}
 use Rattle.cycle_events.proofs.Retired.{Missed, left_after, retires}
-use Rattle.cycle_events.proofs.Wide.{Wide, AllWide, WideAt, wide-at, Each-wide, source-wide, all-same, all-outcome, all-trans, all-less}
+use Rattle.cycle_events.proofs.Wide.{Wide, AllWide, wide-at, Each-wide, source-wide, all-same, all-outcome}
 use Rattle.cycle_events.proofs.Chosen.{kept, GoesOn, LeadsOn, ReadsAt, RetiresAt, Ends, Plain, Stored, Turned, IsChosen}
 use Rattle.cycle_events.proofs.Presented.{ext}
 

@@ -1,6 +1,6 @@
 -- The offer and its answer: what is known of the uses where a word is offered.
-use Rattle.std.proofs.Common.{◌≡◌, ◌≢◌, ◌<◌, ◌==◌, ◌&&◌, ◌+◌, ◌++◌, ℕ, Bool, true, false, cond, not, List, [], ◌∷◌, map, filter, Option, Some, None, refl, sym, ap, ◌∙◌, subst, arith}
-use Rattle.std.specs.Prelude.{is_some, IsSome, IfSome}
+use Rattle.std.proofs.Common.{◌≡◌, ◌≢◌, ◌++◌, ℕ, Bool, true, false, cond, not, List, [], ◌∷◌, map, filter, Option, Some, None, refl, sym, ap, ◌∙◌, subst, arith}
+use Rattle.std.specs.Prelude.{IsSome, IfSome}
 use Rattle.std.specs.Option.{option_map_or}
 use Rattle.xif_base.specs.Params.{IsInRange}
 use Rattle.xif_base.specs.declared.params.Key.{Key}
@@ -14,19 +14,19 @@ use Rattle.cycle_spec.specs.Flight.{is_open, with_response}
 use Rattle.cycle_spec.specs.Engine.{has_key, issue_key, latest, start_of, new_use, with_start, with_answer}
 use Rattle.cycle_lists.specs.Lists.{Each, Pairs, FirstAt}
 use Rattle.cycle_lists.specs.Order.{Before}
-use Rattle.cycle_lists.proofs.Every.{Each-from, Each-both, Each-append, Each-filter, Each-push, Each-at}
-use Rattle.cycle_paired.specs.Paired.{is_live, response_of, IsEntry, IsUse, Older, Offers}
+use Rattle.cycle_lists.proofs.Every.{Each-from, Each-both, Each-append, Each-filter, Each-push}
+use Rattle.cycle_paired.specs.Paired.{is_live, response_of, IsEntry, Older, Offers}
 use Rattle.cycle_paired.proofs.Facts.{Joint, open-unknown, open-dead}
 use Rattle.cycle_paired.proofs.Matching.{latest-at}
 use Rattle.cycle_paired.proofs.Starting.{started_in, Started, OffersWord, starting}
 use Rattle.cycle_lists.proofs.Tests.{not-both}
-use Rattle.ahead_spec.specs.Walk.{Item, entries}
+use Rattle.ahead_spec.specs.Walk.{Item}
 use Rattle.ahead_spec.specs.Operands.{word_hit}
 use Rattle.ahead_spec.specs.World.{World}
 use Rattle.cycle_events.specs.Becomes.{Becomes}
 use Rattle.cycle_events.specs.Shown.{Tied, IsHeld, Left, Shows}
 use Rattle.cycle_events.proofs.Moving.{to-items}
-use Rattle.cycle_events.proofs.Tying.{Tie, other-ids-at, OtherIds}
+use Rattle.cycle_events.proofs.Tying.{Tie, other-ids-at}
 use Rattle.cycle_events.proofs.Answered.{IsOffer, answered}
 
 -- the ids of live entries differ from the offered one

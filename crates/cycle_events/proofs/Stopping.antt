@@ -1,8 +1,7 @@
 -- The cycle that stops the machine changes nothing of what is left.
-use Rattle.std.proofs.Common.{◌≡◌, ◌==◌, ◌&&◌, ◌||◌, ◌+◌, ◌++◌, ℕ, zero, suc, Bool, true, false, cond, not, List, [], ◌∷◌, map, Option, Some, None, refl, sym, ap, ◌∙◌, subst, arith}
+use Rattle.std.proofs.Common.{◌≡◌, ◌==◌, ◌&&◌, ◌+◌, ℕ, zero, suc, Bool, true, false, cond, not, List, [], ◌∷◌, map, Option, Some, None, refl, sym, ap, ◌∙◌, subst, arith}
 use Rattle.std.specs.Prelude.{find, is_some, is_none, slice_index_or}
 use Rattle.std.specs.Option.{option_or}
-use Rattle.xif_base.specs.Params.{IsInRange}
 use Rattle.coproc_config.specs.declared.accept.Hit.{Hit}
 use Rattle.coproc_config.specs.Set.{UnitTable}
 use Rattle.inorder_machine.specs.declared.line.Retire.{Retire}
@@ -11,20 +10,18 @@ use Rattle.inorder_machine.specs.declared.stop.StopCause.{StopCause}
 use Rattle.inorder_machine.specs.Machine.{Extension, State}
 use Rattle.xif_signals.specs.declared.bus.CpuIn.{CpuIn}
 use Rattle.xif_session.specs.declared.fact.Decision.{Decision}
-use Rattle.xif_session.specs.declared.fact.Decision.TheVariants.{Undecided, Released, Killed}
+use Rattle.xif_session.specs.declared.fact.Decision.TheVariants.{Undecided, Killed}
 use Rattle.xif_session.specs.declared.fact.Response.{Response}
 use Rattle.xif_session.specs.Facts.{is_accepted as is_response_accepted, is_undecided, is_released, is_killed}
-use Rattle.cycle_spec.specs.declared.choices.Choices.{Choices}
 use Rattle.cycle_spec.specs.declared.choices.Mode.{Mode}
 use Rattle.cycle_spec.specs.declared.choices.Mode.TheVariants.{Running, DrainBegins, Draining}
 use Rattle.cycle_spec.specs.declared.entry.Entry.{Entry}
 use Rattle.cycle_spec.specs.declared.use_of.Use.{Use}
-use Rattle.cycle_spec.specs.Flight.{is_unknown, is_unknown_kind, is_stopping, is_pending, is_safe, is_safe_kind}
-use Rattle.cycle_spec.specs.State.{Core, Engine}
+use Rattle.cycle_spec.specs.Flight.{is_unknown, is_pending, is_safe, is_safe_kind}
+use Rattle.cycle_spec.specs.State.{Core}
 use Rattle.cycle_spec.specs.Choices.{stop_at, choices_stopping, choices_by, choices_in, choices}
-use Rattle.cycle_spec.specs.Core.{id_in, core_clock, core_drive}
-use Rattle.cycle_spec.specs.Engine.{is_accepted, has_operands, is_complete, is_next, latest, with_decision, is_in_group, decided_by, with_end, outcome_of, units_behind, units_in_harts, units_of, offered_use}
-use Rattle.cycle_spec.specs.Cycle.{Machines, hart_if, input_at, cycle}
+use Rattle.cycle_spec.specs.Engine.{is_accepted, is_complete, is_next, latest, with_decision, is_in_group, decided_by, with_end, outcome_of, units_behind, units_in_harts, offered_use}
+use Rattle.cycle_spec.specs.Cycle.{Machines, input_at, cycle}
 use Rattle.cycle_lists.specs.Lists.{Each, Pairs}
 use Rattle.cycle_lists.proofs.Tests.{and-left, and-right, not-both, false-or, some-is}
 use Rattle.cycle_lists.proofs.Every.{Each-from, Each-both, Each-map, Each-filter, Each-unfilter}
@@ -35,12 +32,12 @@ use Rattle.cycle_paired.proofs.Deciding.{decided_for}
 use Rattle.cycle_paired.proofs.Lasting.{result_uses}
 use Rattle.cycle_paired.proofs.Closing.{both_after}
 use Rattle.ahead_spec.specs.Walk.{Item, entries, outcome, Walked}
-use Rattle.ahead_spec.specs.Operands.{word_hit, response_of}
+use Rattle.ahead_spec.specs.Operands.{word_hit}
 use Rattle.ahead_spec.specs.World.{World}
-use Rattle.ahead_spec.specs.Invariant.{Agrees, RunsAhead}
+use Rattle.ahead_spec.specs.Invariant.{Agrees}
 use Rattle.ahead_laws.proofs.Outcomes.{unknown-kind, entry-unknown, outcome-taken}
 use Rattle.cycle_events.specs.Shown.{IsHeld, Left, left_by, Shows, Shown, extension_of}
-use Rattle.cycle_events.proofs.Applied.{IsComputed, computed}
+use Rattle.cycle_events.proofs.Applied.{computed}
 
 -- ---- what a stop chooses
 

@@ -1,9 +1,9 @@
 -- What the steps of a cycle leave of each entry: what it may write narrows, and what is done stays.
-use Rattle.std.proofs.Common.{◌≡◌, ◌≢◌, ◌==◌, ◌&&◌, ◌||◌, ◌++◌, ◌+◌, ◌%◌, ℕ, zero, suc, Bool, true, false, cond, not, List, [], ◌∷◌, map, filter, take, Option, Some, None, refl, sym, ap, ◌∙◌, ◌⊎◌, inl, inr, subst, if◌then◌else◌}
-use Rattle.std.specs.Prelude.{is_some, is_none, ⊤}
+use Rattle.std.proofs.Common.{◌≡◌, ◌==◌, ◌&&◌, ◌||◌, ◌++◌, ◌+◌, ◌%◌, ℕ, zero, suc, Bool, true, false, cond, not, List, [], ◌∷◌, map, filter, take, Option, Some, None, refl, sym, ap, ◌∙◌, ◌⊎◌, inl, inr, subst}
+use Rattle.std.specs.Prelude.{is_some, ⊤}
 use Rattle.std.specs.List.{last_or}
 use Rattle.std.specs.Option.{option_map_or}
-use Rattle.std.proofs.lemmas.Bool.{eqb-true, eqb-false, eq-eqb, ne_eqb}
+use Rattle.std.proofs.lemmas.Bool.{eqb-true, eq-eqb, ne_eqb}
 use Rattle.rv32_table.specs.Instr.{rd_field, source_field}
 use Rattle.xif_base.specs.Params.{IsInRange}
 use Rattle.coproc_config.specs.declared.accept.Hit.{Hit}
@@ -24,12 +24,12 @@ use Rattle.cycle_spec.specs.declared.entry.Operand.TheVariants.{Here, NotYet}
 use Rattle.cycle_spec.specs.Flight.{is_unknown_kind, is_unknown, is_open, may_write_word, may_write_kind, may_write, value_in, operand_from, operand_behind, source_behind, with_response, with_sent, with_release, with_result, with_outcome}
 use Rattle.cycle_spec.specs.Core.{line_of}
 use Rattle.cycle_lists.specs.Lists.{Each}
-use Rattle.cycle_lists.proofs.Tests.{not-both, or-left, and-left, and-right, and-both, false-or, not-in, no-some}
+use Rattle.cycle_lists.proofs.Tests.{not-both, or-left, and-left, and-right, and-both}
 use Rattle.cycle_lists.proofs.Every.{each, Each-both, Each-from}
 use Rattle.cycle_paired.specs.Paired.{IsEntry}
 use Rattle.cycle_paired.proofs.Facts.{open-unknown, open-undone, open-none}
 use Rattle.cycle_paired.proofs.Growing.{OnlyOpen}
-use Rattle.cycle_paired.proofs.Executing.{Exec, Execs}
+use Rattle.cycle_paired.proofs.Executing.{Execs}
 use Rattle.ahead_spec.specs.Operands.{word_hit, response_of, half_behind}
 use Rattle.ahead_laws.proofs.Hits.{hit-allowed}
 

@@ -33,7 +33,9 @@ pub record IsUseOf (x : Extension) (y : Item) (u : Use) : Type 0 where
 -- the use of its key, if it is live
 abbrev pub Tied : (x : Extension) → (hart : ℕ) → List Use → Item → Type 0
 Tied x hart us y =
-    Each (λ u. is_live y.entry ≡ true → u.key.hart ≡ hart → u.key.id ≡ y.entry.id → IsUseOf x y u) us
+    Each
+    (λ u. is_live y.entry ≡ true → u.key.hart ≡ hart → u.key.id ≡ y.entry.id → IsUseOf x y u)
+    us
 
 -- a use has no lanes before its register handshake, and is finished only once it is ready
 pub record IsHeld (u : Use) : Type 0 where
@@ -90,7 +92,9 @@ extension_of e = record { set = e.set; params = e.params }
 pub record Shown (start : State) (hart : ℕ) (retired : List Retire) (m : Machines) (w : World)
     : Type 0 where
   pub at : ℕ
-  pub shows : Shows (extension_of m.engine) start hart (left_by hart retired m) m.core.flight m.engine.uses at w
+  pub shows
+      : Shows (extension_of m.engine) start hart (left_by hart retired m) m.core.flight
+      m.engine.uses at w
   pub held : Each IsHeld m.engine.uses
   pub leads : m.core.mode ≡ Running → at ≡ m.core.ahead
   pub calm : m.core.mode ≡ Draining → Each IsCalm m.core.flight

@@ -1,44 +1,39 @@
 -- A run, from its first cycle to its last.
-use Rattle.std.proofs.Common.{◌≡◌, ◌≤◌, ◌||◌, ◌+◌, ◌++◌, ℕ, zero, suc, Bool, true, false, cond, List, [], ◌∷◌, length, replicate, reverse, Option, Some, None, refl, sym, ap, ◌∙◌, subst, append-nil, arith}
+use Rattle.std.proofs.Common.{◌≡◌, ◌≤◌, ◌||◌, ◌++◌, ℕ, zero, suc, Bool, true, false, List, [], ◌∷◌, length, replicate, reverse, Option, Some, None, refl, sym, ap, ◌∙◌, subst, append-nil, arith}
 use Rattle.std.specs.Prelude.{is_some, slice_index_or}
-use Rattle.std.specs.Option.{option_map, option_or}
+use Rattle.std.specs.Option.{option_map}
 use Rattle.std.specs.List.{filter_map, cons_option}
 use Rattle.std.proofs.lemmas.List.{reverse-append, length-reverse}
 use Rattle.std.proofs.lemmas.List.Elements.{filter_map-append}
 use Rattle.xif_base.specs.Params.{IsInRange}
-use Rattle.xif_image.specs.Region.{Region}
 use Rattle.coproc_config.specs.State.{zeros}
 use Rattle.inorder_machine.specs.declared.line.Retire.{Retire}
 use Rattle.inorder_machine.specs.declared.line.Stepped.TheVariants.{Stop}
 use Rattle.inorder_machine.specs.declared.stop.StopCause.{StopCause}
-use Rattle.inorder_machine.specs.Machine.{Extension, State, next_step}
+use Rattle.inorder_machine.specs.Machine.{State, next_step}
 use Rattle.inorder_machine.specs.After.{after}
-use Rattle.cycle_spec.specs.declared.choices.Choices.{Choices}
 use Rattle.cycle_spec.specs.declared.choices.Mode.{Mode}
 use Rattle.cycle_spec.specs.declared.choices.Mode.TheVariants.{Running, DrainBegins, Draining}
 use Rattle.cycle_spec.specs.declared.entry.Entry.{Entry}
 use Rattle.cycle_spec.specs.declared.log.CycleLog.{CycleLog}
-use Rattle.cycle_spec.specs.declared.log.End.{End}
 use Rattle.cycle_spec.specs.declared.log.End.TheVariants.{Stopped, Budget}
-use Rattle.cycle_spec.specs.State.{Core}
-use Rattle.cycle_spec.specs.Choices.{stop_at, choices_stopping, choices}
+use Rattle.cycle_spec.specs.Choices.{stop_at, choices}
 use Rattle.cycle_spec.specs.Core.{line_of, mode_after}
 use Rattle.cycle_spec.specs.Engine.{units_of}
 use Rattle.cycle_spec.specs.Cycle.{Machines, cycle}
-use Rattle.cycle_spec.specs.Run.{Setup, Meaning, Progress, new_machines, start, next as next_progress, unless, cycles_until, is_stopped, has_no_entry, is_empty, drain_limit, with_drain, drained, progress_of, Run, end_by, run_after, run_of}
+use Rattle.cycle_spec.specs.Run.{Setup, Meaning, Progress, new_machines, start, next as next_progress, unless, cycles_until, is_stopped, is_empty, drain_limit, with_drain, drained, progress_of, end_by, run_after, run_of}
 use Rattle.cycle_paired.specs.Paired.{Paired}
-use Rattle.cycle_paired.specs.Reached.{begins_drain}
 use Rattle.cycle_paired.proofs.Closing.{cycle-paired}
 use Rattle.cycle_paired.proofs.Always.{start-paired, drain-paired}
 use Rattle.ahead_spec.specs.Walk.{Item, entries}
 use Rattle.ahead_spec.specs.World.{World, begun, run}
-use Rattle.ahead_spec.specs.Refines.{lines, stop_in, Refines}
+use Rattle.ahead_spec.specs.Refines.{lines, stop_in}
 use Rattle.ahead_laws.proofs.Refining.{refines}
 use Rattle.cycle_events.specs.Becomes.{Becomes}
 use Rattle.cycle_events.specs.Shown.{Left, left_by, Shows, Shown, extension_of, state_in}
 use Rattle.cycle_events.proofs.Moving.{stays, next}
 use Rattle.cycle_events.proofs.Cycled.{cycled}
-use Rattle.cycle_events.proofs.Stopping.{Stops, stopping, drain-runs, stop-leaves, stop-says, goes-says}
+use Rattle.cycle_events.proofs.Stopping.{stopping, drain-runs, stop-leaves, stop-says, goes-says}
 use Rattle.cycle_events.proofs.Between.{start-shown, drain-shown, cycle-params, cycle-extension}
 use Rattle.cycle_refines.specs.RefinesInOrder.{extension_in, first_state, RefinesInOrder}
 

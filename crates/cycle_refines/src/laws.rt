@@ -6,9 +6,9 @@ ghost use Rattle.cycle_refines.specs.RefinesInOrder.{meaning, RefinesInOrder};
 use xif_drive::Predictor;
 
 /// Whatever a predictor of any type answers, and however long the coprocessors and the core delay
-/// each other: registers, memory and retired instructions of a run are those of the in-order machine
-/// after as many instructions, accumulators too where it stopped or where nothing is in flight at
-/// its end, and a stop is the in-order machine's.
+/// each other: registers, memory and retired instructions of a run are those of the in-order
+/// machine after as many instructions, accumulators too where it stopped or where nothing is in
+/// flight at its end, and a stop is the in-order machine's.
 pub fn every_run_refines_the_in_order_machine<P: Predictor>()
     ensures { (setup : Setup) → (predictor : P) → IsInRange setup.params
         → RefinesInOrder setup

@@ -1,5 +1,5 @@
-//! A run of core and engine refines the in-order machine: it leaves what the in-order machine leaves
-//! after as many instructions, and stops where it stops.
+//! A run of core and engine refines the in-order machine: it leaves what the in-order machine
+//! leaves after as many instructions, and stops where that stops.
 //!
 //! `specs/RefinesInOrder.antt` says what that means. `every_run_refines_the_in_order_machine` says
 //! it of every run of `cycle_spec`: for every set of units, program, predictor, script, window and
