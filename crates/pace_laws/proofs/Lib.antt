@@ -1,0 +1,4 @@
+pub mod Delays
+pub mod Flags
+pub mod Steps
+pub mod Steady
