@@ -52,28 +52,24 @@ delay-greatest : (xs : List ℕ) (k : ℕ) → delay_of xs k ≤ greatest xs
 delay-greatest xs k = index-greatest xs (k % length xs)
 
 -- a list among others
-in-front : (k : ℕ) (xs ys : List ℕ) → delay_of xs k ≤ greatest (xs ++ ys)
-in-front k xs ys = le-then (delay_of xs k) (greatest xs) (greatest (xs ++ ys)) (delay-greatest xs k) (front-greatest 0 xs ys)
+before : (n : ℕ) (xs ys : List ℕ) → n ≤ greatest xs → n ≤ greatest (xs ++ ys)
+before n xs ys h = le-then n (greatest xs) (greatest (xs ++ ys)) h (front-greatest 0 xs ys)
 
-behind : (n : ℕ) (xs ys : List ℕ) → n ≤ greatest ys → n ≤ greatest (xs ++ ys)
-behind n xs ys h = le-then n (greatest ys) (greatest (xs ++ ys)) h (back-greatest 0 xs ys)
+at-end : (k : ℕ) (xs ys : List ℕ) → delay_of ys k ≤ greatest (xs ++ ys)
+at-end k xs ys = le-then (delay_of ys k) (greatest ys) (greatest (xs ++ ys)) (delay-greatest ys k) (back-greatest 0 xs ys)
 
 pub largest-bounds : (s : Lists) → Bounds (largest_of s) s
-largest-bounds s = record {
-  issue = λ k. in-front k s.issue (s.register ++ s.operand ++ s.result ++ s.take);
-  register = λ k. behind (delay_of s.register k) s.issue (s.register ++ s.operand ++ s.result ++ s.take) (in-front k s.register (s.operand ++ s.result ++ s.take));
-  operand = λ k.
-      behind (delay_of s.operand k) s.issue (s.register ++ s.operand ++ s.result ++ s.take)
-      (behind (delay_of s.operand k) s.register (s.operand ++ s.result ++ s.take) (in-front k s.operand (s.result ++ s.take)));
-  result = λ k.
-      behind (delay_of s.result k) s.issue (s.register ++ s.operand ++ s.result ++ s.take)
-      (behind (delay_of s.result k) s.register (s.operand ++ s.result ++ s.take)
-      (behind (delay_of s.result k) s.operand (s.result ++ s.take) (in-front k s.result s.take)));
-  take = λ k.
-      behind (delay_of s.take k) s.issue (s.register ++ s.operand ++ s.result ++ s.take)
-      (behind (delay_of s.take k) s.register (s.operand ++ s.result ++ s.take)
-      (behind (delay_of s.take k) s.operand (s.result ++ s.take) (behind (delay_of s.take k) s.result s.take (delay-greatest s.take k))));
-}
+largest-bounds s =
+    let two = s.issue ++ s.register in
+    let three = two ++ s.operand in
+    let four = three ++ s.result in
+    record {
+      issue = λ k. before (delay_of s.issue k) four s.take (before (delay_of s.issue k) three s.result (before (delay_of s.issue k) two s.operand (before (delay_of s.issue k) s.issue s.register (delay-greatest s.issue k))));
+      register = λ k. before (delay_of s.register k) four s.take (before (delay_of s.register k) three s.result (before (delay_of s.register k) two s.operand (at-end k s.issue s.register)));
+      operand = λ k. before (delay_of s.operand k) four s.take (before (delay_of s.operand k) three s.result (at-end k two s.operand));
+      result = λ k. before (delay_of s.result k) four s.take (at-end k three s.result);
+      take = λ k. at-end k four s.take;
+    }
 
 -- ---- one transaction
 
