@@ -2,3 +2,4 @@ pub mod Delays
 pub mod Flags
 pub mod Steps
 pub mod Steady
+pub mod Uses
