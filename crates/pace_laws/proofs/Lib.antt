@@ -3,3 +3,4 @@ pub mod Flags
 pub mod Steps
 pub mod Steady
 pub mod Uses
+pub mod Keeping

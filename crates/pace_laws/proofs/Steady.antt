@@ -50,7 +50,7 @@ steady-goes set p e f g s = record {
 each-mapped : (P : Entry → Type 0) (g : Entry → Entry) (es : List Entry) → ((e f : Entry) → Goes e f → P e → P f) → ((e : Entry) → Goes e (g e)) → Each P es → Each P (map g es)
 each-mapped P g es k l h = Each-map P P g es (λ e p. k e (g e) (l e) p) h
 
-each-sent : (P : Entry → Type 0) (present : Option Presented) (b : Bus) (es : List Entry) → ((e f : Entry) → Goes e f → P e → P f) → Each P es → Each P (sent_step present b es)
+pub each-sent : (P : Entry → Type 0) (present : Option Presented) (b : Bus) (es : List Entry) → ((e f : Entry) → Goes e f → P e → P f) → Each P es → Each P (sent_step present b es)
 each-sent P present b es k h = go (is_given b) present
   where
     go : (t : Bool) (o : Option Presented) → Each P (cond t (sent_on_present o es) es)
@@ -87,7 +87,7 @@ each-retired P None es h = h
 each-retired P (Some e) es h = Each-drop P 1 es h
 
 -- from the handshake of the registers on
-each-late : (P : Entry → Type 0) (ch : Choices) (b : Bus) (es : List Entry) → ((e f : Entry) → Goes e f → P e → P f) → Each P (sent_entries ch b es) → Each P (settled_entries ch b es)
+pub each-late : (P : Entry → Type 0) (ch : Choices) (b : Bus) (es : List Entry) → ((e f : Entry) → Goes e f → P e → P f) → Each P (sent_entries ch b es) → Each P (settled_entries ch b es)
 each-late P ch b es k h =
     each-retired P ch.retire _ (each-executed P ch.execute _ k (each-result P b _ k (each-drained P ch.drain _ (each-cut P ch.cut _ (each-released P ch.release _ k h)))))
 
