@@ -4,3 +4,5 @@ pub mod Steps
 pub mod Steady
 pub mod Uses
 pub mod Keeping
+pub mod Chosen
+pub mod Track
