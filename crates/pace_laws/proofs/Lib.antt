@@ -6,3 +6,4 @@ pub mod Uses
 pub mod Keeping
 pub mod Chosen
 pub mod Track
+pub mod Results

@@ -130,15 +130,11 @@ later : (c : ℕ) (o : Option ℕ) → IfSome o (λ r. r < c) → IfSome o (λ r
 later c None h = tt
 later c (Some r) h = omega arith
 
-pub kept-settled : (e : Engine) (cpu : CpuOut) (cop : CopOut) (input : CpuIn) → Each (λ u. u.start < e.cycle) e.uses → Pairs Older e.uses → ((v : Use) → offered_use e ≡ Some v → Carries v e.uses) → Each (IsKept e.cycle) e.uses → Each (IsKept (e.cycle + 1)) (settled_uses e cpu cop input)
-kept-settled e cpu cop input below pairs carries h =
-    let up = each-up (IsKept e.cycle) e cpu cop (kept-leaves e.cycle) (λ s. record { before = tt; finished = λ f. cc }) (λ a u k. record { before = k.before; finished = k.finished }) h in
-    each-ready (IsKept (e.cycle + 1)) e.set e.cycle 0 e.units (ended_uses e cpu cop input) (λ hart result u n k. record { before = now e.cycle; finished = λ f. refl })
-    (Each-from (IsKept e.cycle) (IsKept (e.cycle + 1)) (ended_uses e cpu cop input) (λ u k. record { before = later e.cycle u.ready k.before; finished = k.finished }) (go (cop.result_valid && input.result_ready) (offered_use e) refl up))
+pub kept-ended : (e : Engine) (cpu : CpuOut) (cop : CopOut) (input : CpuIn) → Each (λ u. u.start < e.cycle) e.uses → Pairs Older e.uses → ((v : Use) → offered_use e ≡ Some v → Carries v e.uses) → Each (IsKept e.cycle) e.uses → Each (IsKept e.cycle) (ended_uses e cpu cop input)
+kept-ended e cpu cop input below pairs carries h =
+    go (cop.result_valid && input.result_ready) (offered_use e) refl
+    (each-up (IsKept e.cycle) e cpu cop (kept-leaves e.cycle) (λ s. record { before = tt; finished = λ f. cc }) (λ a u k. record { before = k.before; finished = k.finished }) h)
   where
-    now : (c : ℕ) → c < c + 1
-    now c = omega arith
-
     one : (v : Use) → offered_use e ≡ Some v → (us : List Use) → us ≡ decided_uses e cpu cop → Each (IsKept e.cycle) us → Each (IsKept e.cycle) (map (with_end v.start) us)
     one v q us i k =
         let c = carries v q in
@@ -153,3 +149,11 @@ kept-settled e cpu cop input below pairs carries h =
     go false o q k = k
     go true None q k = k
     go true (Some v) q k = one v q (decided_uses e cpu cop) refl k
+
+pub kept-settled : (e : Engine) (cpu : CpuOut) (cop : CopOut) (input : CpuIn) → Each (λ u. u.start < e.cycle) e.uses → Pairs Older e.uses → ((v : Use) → offered_use e ≡ Some v → Carries v e.uses) → Each (IsKept e.cycle) e.uses → Each (IsKept (e.cycle + 1)) (settled_uses e cpu cop input)
+kept-settled e cpu cop input below pairs carries h =
+    each-ready (IsKept (e.cycle + 1)) e.set e.cycle 0 e.units (ended_uses e cpu cop input) (λ hart result u n k. record { before = now e.cycle; finished = λ f. refl })
+    (Each-from (IsKept e.cycle) (IsKept (e.cycle + 1)) (ended_uses e cpu cop input) (λ u k. record { before = later e.cycle u.ready k.before; finished = k.finished }) (kept-ended e cpu cop input below pairs carries h))
+  where
+    now : (c : ℕ) → c < c + 1
+    now c = omega arith
