@@ -7,3 +7,6 @@ pub mod Keeping
 pub mod Chosen
 pub mod Track
 pub mod Results
+pub mod Finishing
+pub mod Operands
+pub mod Offering

@@ -51,7 +51,7 @@ offered-carries m k us f = go (offered_use m.engine) refl
     go None h = tt
     go (Some u) h = f u (carried-at m.engine.result_waiting m.engine.script.result m.engine.cycle m.engine.uses u k.results h)
 
-ended-joint : (m : Machines) (ch : Choices) (input : CpuIn) (k : Paired 0 m) → Sound m.core.params.split m.core.flight ch → (h : Half 0 m ch)
+pub ended-joint : (m : Machines) (ch : Choices) (input : CpuIn) (k : Paired 0 m) → Sound m.core.params.split m.core.flight ch → (h : Half 0 m ch)
     → Joint 0 m.core.next_seq (free_id m.core.flight) (m.engine.cycle + 1) h.answered (settled_entries ch (bus_for 0 m.engine ch input) m.core.flight) (ended_uses m.engine (cpu_for 0 ch) (engine_drive m.engine (cpu_for 0 ch)) input)
 ended-joint m ch input k so h =
     let w = m.core in
@@ -83,7 +83,7 @@ turn-none : (d : ℕ) (delays : List ℕ) (ts : Transactions) (ready : Bool) →
 turn-none d delays ts ready h = rest-bound d delays (record { number = ts.begun; age = 0 }) (h ts.begun)
 
 -- a use may be offered for itself, and isn't taken
-channel : (d s r delay now : ℕ) (delays : List ℕ) (ts : Transactions) (o : Option ℕ) (x : Option Use) (ready : Bool) → ((k : ℕ) → delay_of delays k ≤ d) → wait_of r delay now ≤ d
+pub channel : (d s r delay now : ℕ) (delays : List ℕ) (ts : Transactions) (o : Option ℕ) (x : Option Use) (ready : Bool) → ((k : ℕ) → delay_of delays k ≤ d) → wait_of r delay now ≤ d
     → ready ≡ (is_some x && is_past delays (turn_of ts result_owner)) → (o ≡ Some s → option_map (λ u. u.start) x ≡ Some s) → (o ≡ None → wait_of r delay now ≡ 0 → option_map (λ u. u.start) x ≡ Some s)
     → (option_map (λ u. u.start) x ≡ Some s → ready ≡ true → ⊥)
     → offer_rest d (rest delays (turn_of (transactions_after ts (cond (is_some x) (Some result_owner) None) ready) result_owner)) s (cond ready None (option_map (λ u. u.start) x)) (wait_of r delay (now + 1))
@@ -124,6 +124,9 @@ moved_in m ch input e = moved ch (bus_for 0 m.engine ch input) (for_result ch (b
 abbrev pub uses_in : Machines → Choices → CpuIn → List Use
 uses_in m ch input = settled_uses m.engine (cpu_for 0 ch) (engine_drive m.engine (cpu_for 0 ch)) input
 
+pub unfinished-its : (answered : ℕ → Bool) (e : Entry) (us : List Use) (i : Its answered e us) → i.its.finished ≡ false
+unfinished-its answered e us i = not-in i.its.finished (and-right (not (is_killed i.its.decision)) (not i.its.finished) (and-right (answered i.its.start) (not (is_killed i.its.decision) && not i.its.finished) i.live))
+
 pub carries-its : (answered : ℕ → Bool) (e : Entry) (us : List Use) (i : Its answered e us) → IsSome i.its.ready → Carries i.its us
 carries-its answered e us i r = record {
   front = i.front;
@@ -136,20 +139,20 @@ carries-its answered e us i r = record {
   hit = refl;
   result = refl;
   ready = r;
-  unfinished = not-in i.its.finished (and-right (not (is_killed i.its.decision)) (not i.its.finished) (and-right (answered i.its.start) (not (is_killed i.its.decision) && not i.its.finished) i.live));
+  unfinished = unfinished-its answered e us i;
 }
 
 -- ---- the offered use
 
 -- an offered use is one of the engine's
-offered-in : (e : Engine) (P : Use → Type 0) (v : Use) → offered_use e ≡ Some v → Each P e.uses → P v
+pub offered-in : (e : Engine) (P : Use → Type 0) (v : Use) → offered_use e ≡ Some v → Each P e.uses → P v
 offered-in e P v q h = go e.result_waiting q
   where
     go : (o : Option ℕ) → offered_by o e.script.result e.cycle e.uses ≡ Some v → P v
     go None k = let f = first-at (is_due e.script.result e.cycle) e.uses v k in Each-at P e.uses f.older v f.younger f.here h
     go (Some s) k = let f = first-at (has_start s) e.uses v k in Each-at P e.uses f.older v f.younger f.here h
 
-start-of : (o : Option Use) (s : ℕ) → option_map (λ u. u.start) o ≡ Some s → (v : Use) → o ≡ Some v → v.start ≡ s
+pub start-of : (o : Option Use) (s : ℕ) → option_map (λ u. u.start) o ≡ Some s → (v : Use) → o ≡ Some v → v.start ≡ s
 start-of None s h v q = cc
 start-of (Some u) s h v q = ap (λ x. x.start) (sym (some-is u v q)) ∙ some-is u.start s h
 

@@ -86,7 +86,7 @@ of-start answered e us i older =
 abbrev pub OtherStarts : Engine → Choices → (id : ℕ) → Type 0
 OtherStarts e ch id = IfSome ch.offer (λ p. p.id ≢ id)
 
-not-new : (e : Engine) (ch : Choices) (id : ℕ) → OtherStarts e ch id → starts e (cpu_for 0 ch) ≡ true → id_in ch.offer ≡ id → ⊥
+pub not-new : (e : Engine) (ch : Choices) (id : ℕ) → OtherStarts e ch id → starts e (cpu_for 0 ch) ≡ true → id_in ch.offer ≡ id → ⊥
 not-new e ch id h s q = go ch.offer h (and-left (is_some ch.offer) (not (goes_on e (cpu_for 0 ch))) s) q
   where
     go : (o : Option Entry) → IfSome o (λ p. p.id ≢ id) → is_some o ≡ true → id_in o ≡ id → ⊥
