@@ -111,7 +111,7 @@ taken-done d m ch input e c i q r = go (offered_use m.engine) refl
 over-done : (e : Entry) → is_over e ≡ false → e.done ≡ true → ⊥
 over-done e o h = not-both e.done (or-false_left e.done (is_stopping e) o) h
 
-waits-little : (d r delay cycle : ℕ) → delay ≤ d → r < cycle → wait_of r delay cycle ≤ d
+pub waits-little : (d r delay cycle : ℕ) → delay ≤ d → r < cycle → wait_of r delay cycle ≤ d
 waits-little d r delay cycle h k = omega arith
 
 form : (m : Machines) (d : ℕ) (u : Use) (s o r : ℕ) → u.start ≡ s → u.order ≡ o → u.ready ≡ Some r → result_rest m d (Some u) ≡ offer_rest d (rest m.core.script.take (take_turn m)) s m.engine.result_waiting (wait_of r (delay_of m.engine.script.result o) m.engine.cycle)

@@ -10,3 +10,4 @@ pub mod Results
 pub mod Finishing
 pub mod Operands
 pub mod Offering
+pub mod Falling

@@ -173,7 +173,7 @@ any-last test (x ∷ xs) u h = or-right (test x) (list_any test (xs ++ u ∷ [])
 start-after : (answer : ℕ → ℕ → ℕ) (d : ℕ) (m : Machines) (ch : Choices) (input : CpuIn) (e f : Entry) → Scene d m ch input e → is_open e ≡ true → issue_ready m.engine (cpu_for 0 ch) ≡ false → f.id ≡ e.id → issue_start (both_after 0 answer m ch input).engine (offer_of f) ≡ issue_start m.engine (cpu_for 0 ch)
 start-after answer d m ch input e f c o r i =
     let x = ends-after d m ch input e c o r in
-    let key = record { hart = 0; id = f.id } in
+    let key : Key = record { hart = 0; id = f.id } in
     let us = uses_in m ch input in
     let s = issue_start m.engine (cpu_for 0 ch) in
     let has : has_key key x.last ≡ true = key-here 0 f.id x.last x.hart_is (x.id_is ∙ sym i) in
