@@ -157,10 +157,10 @@ waiting-kept o true t k h = ap (λ x. reads_registers o && not x) (k refl) ∙ a
 waiting-kept o false true k h = and-false (reads_registers o)
 waiting-kept o false false k h = h
 
-three : (P Q R : Type 0) (a a' b b' c c' : ℕ) (w r : Bool) → Drops (w ≡ true) a' a → Drops (r ≡ false) b' b → Drops R c' c → (w ≡ false → r ≡ true → R) → a' + b' + c' < a + b + c
-three P Q R a a' b b' c c' true r x y z k = let l = x.less refl in let m = y.most in let n = z.most in omega (arith, l, m, n)
-three P Q R a a' b b' c c' false false x y z k = let l = x.most in let m = y.less refl in let n = z.most in omega (arith, l, m, n)
-three P Q R a a' b b' c c' false true x y z k = let l = x.most in let m = y.most in let n = z.less (k refl refl) in omega (arith, l, m, n)
+three : (R : Type 0) (a a' b b' c c' : ℕ) (w r : Bool) → Drops (w ≡ true) a' a → Drops (r ≡ false) b' b → Drops R c' c → (w ≡ false → r ≡ true → R) → a' + b' + c' < a + b + c
+three R a a' b b' c c' true r x y z k = let l = x.less refl in let m = y.most in let n = z.most in omega (arith, l, m, n)
+three R a a' b b' c c' false false x y z k = let l = x.most in let m = y.less refl in let n = z.most in omega (arith, l, m, n)
+three R a a' b b' c c' false true x y z k = let l = x.most in let m = y.most in let n = z.less (k refl refl) in omega (arith, l, m, n)
 
 weaker : (a b : ℕ) → a < b → a ≤ b
 weaker a b h = omega arith
@@ -173,11 +173,8 @@ accepted-falls d answer m ch input e c next leads over r q =
     (subst (λ s. operand_rest n f s + release_rest f + result_rest n d (latest (key_of f) n.engine.uses) < operand_rest m e i.its.start + release_rest e + result_rest m d (latest (key_of e) m.engine.uses)) (sym (start-its next.answered n f j))
     (subst (λ u. operand_rest n f j.its.start + release_rest f + result_rest n d (latest (key_of f) n.engine.uses) < operand_rest m e i.its.start + release_rest e + result_rest m d u) (sym i.latest_is)
     (subst (λ u. operand_rest n f j.its.start + release_rest f + result_rest n d u < operand_rest m e i.its.start + release_rest e + result_rest m d (Some i.its)) (sym j.latest_is)
-    (three Unit0 Unit0 ((f.released ≡ true) × (is_waiting f ≡ false)) (operand_rest m e i.its.start) (operand_rest n f j.its.start) (release_rest e) (release_rest f) (result_rest m d (Some i.its)) (result_rest n d (Some j.its)) (is_waiting e) e.released operands release u.result (λ w l. (released-stays ch b (for_result ch b m.core.flight) e l, quiet w)))))))
+    (three ((f.released ≡ true) × (is_waiting f ≡ false)) (operand_rest m e i.its.start) (operand_rest n f j.its.start) (release_rest e) (release_rest f) (result_rest m d (Some i.its)) (result_rest n d (Some j.its)) (is_waiting e) e.released operands release u.result (λ w l. (released-stays ch b (for_result ch b m.core.flight) e l, quiet w)))))))
   where
-    Unit0 : Type 0
-    Unit0 = Bool
-
     n : Machines
     n = both_after 0 answer m ch input
 

@@ -163,6 +163,13 @@ length-retired : (n : ℕ) (o : Option Entry) (es : List Entry) → length es �
 length-retired n None es h = omega (arith, h)
 length-retired n (Some p) es h = let l = length-drop 1 es in omega (arith, l, h)
 
+-- from the cut on
+pub length-late : (n : ℕ) (ch : Choices) (b : Bus) (es : List Entry) → length (kept_entries ch b es) ≤ n → length (settled_entries ch b es) ≤ n
+length-late n ch b es h = weak n (cond (is_some ch.retire) 1 0) (length (settled_entries ch b es)) (length-retired n ch.retire _ (length-executed n ch.execute _ (length-result n b (kept_entries ch b es) h)))
+  where
+    weak : (n k l : ℕ) → l ≤ n - k → l ≤ n
+    weak n k l q = omega arith
+
 -- one less where one retires
 pub length-settled : (n : ℕ) (ch : Choices) (b : Bus) (es : List Entry) → length es ≤ n → length (settled_entries ch b es) ≤ n - cond (is_some ch.retire) 1 0
 length-settled n ch b es h =

@@ -11,3 +11,4 @@ pub mod Finishing
 pub mod Operands
 pub mod Offering
 pub mod Falling
+pub mod Goes
