@@ -182,7 +182,7 @@ begins d m p s q =
       stay = k;
       drains = subst (Drains w k) (sym are) (record { retire = refl; execute = refl; present = refl; cut = refl; drain = refl; offer = refl });
       dispatch = ap (λ c. c.dispatch) are;
-      gone = λ z. subst (λ c. length (settled_entries c (bus_for 0 m.engine c (input_at m 0)) w.flight) ≤ 0) (sym are) (length-late 0 (choices_drain_begins w k) _ w.flight (none k z _));
+      gone = λ z. subst (λ c. length (settled_entries c (bus_for 0 m.engine c (input_at m 0)) w.flight) ≤ 0) (sym are) (length-late 0 (choices_drain_begins w k) (bus_for 0 m.engine (choices_drain_begins w k) (input_at m 0)) w.flight (none k z _));
       covers = λ e es f pos. cover e es f (youngest_released w.flight) refl pos;
     }
   where
