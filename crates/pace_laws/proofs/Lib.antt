@@ -12,3 +12,4 @@ pub mod Operands
 pub mod Offering
 pub mod Falling
 pub mod Goes
+pub mod Whole
