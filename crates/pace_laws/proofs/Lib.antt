@@ -13,3 +13,4 @@ pub mod Offering
 pub mod Falling
 pub mod Goes
 pub mod Whole
+pub mod Reaching
