@@ -1,0 +1,16 @@
+pub mod Delays
+pub mod Flags
+pub mod Steps
+pub mod Steady
+pub mod Uses
+pub mod Keeping
+pub mod Chosen
+pub mod Track
+pub mod Results
+pub mod Finishing
+pub mod Operands
+pub mod Offering
+pub mod Falling
+pub mod Goes
+pub mod Whole
+pub mod Reaching
