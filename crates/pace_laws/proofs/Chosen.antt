@@ -210,10 +210,13 @@ open-kill es e ys (Some c) f o b s k =
       where
         go : (l : List Entry) → Each (Behind e) l → Each (Before e) l → Each (Idle e) l
         go [] a c = tt
-        go (y ∷ l) a c = (record {
-          pending = ap (λ t. t && not y.released) (false-or (is_some y.response) (λ r. not-both (is_open e) (a.0.answered r) o));
-          other = ne_eqb y.seq e.seq (differs e.seq y.seq c.0.rises);
-        }, go l a.1 c.1)
+        go (y ∷ l) a c = (
+          record {
+            pending = ap (λ t. t && not y.released) (false-or (is_some y.response) (λ r. not-both (is_open e) (a.0.answered r) o));
+            other = ne_eqb y.seq e.seq (differs e.seq y.seq c.0.rises);
+          },
+          go l a.1 c.1,
+        )
 
 -- ---- another word is offered
 

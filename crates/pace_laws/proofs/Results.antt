@@ -155,4 +155,3 @@ offered-in e P v q h = go e.result_waiting q
 pub start-of : (o : Option Use) (s : ℕ) → option_map (λ u. u.start) o ≡ Some s → (v : Use) → o ≡ Some v → v.start ≡ s
 start-of None s h v q = cc
 start-of (Some u) s h v q = ap (λ x. x.start) (sym (some-is u v q)) ∙ some-is u.start s h
-

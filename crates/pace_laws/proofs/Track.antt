@@ -177,9 +177,10 @@ applied e us answered y i older some before next complete = go e.units some
 
     parts : Each P i.front × Each P i.back
     parts =
-        let pairs : Pairs Older (i.front ++ i.its ∷ i.back) = subst (Pairs Older) i.here older in
-        (Each-from (λ x. Older x i.its) P i.front (λ x o h. absurd (o.apart (h.0 ∙ sym i.alike.hart_is) (h.1 ∙ sym i.alike.id))) (Pairs-older Older i.front i.its i.back pairs),
-        Each-from (Older i.its) P i.back (λ x o h. absurd (o.apart (i.alike.hart_is ∙ sym h.0) (i.alike.id ∙ sym h.1))) (Pairs-younger Older i.front i.its i.back pairs))
+        let pairs : Pairs Older (i.front ++ i.its ∷ i.back) = subst (Pairs Older) i.here older in (
+          Each-from (λ x. Older x i.its) P i.front (λ x o h. absurd (o.apart (h.0 ∙ sym i.alike.hart_is) (h.1 ∙ sym i.alike.id))) (Pairs-older Older i.front i.its i.back pairs),
+          Each-from (Older i.its) P i.back (λ x o h. absurd (o.apart (i.alike.hart_is ∙ sym h.0) (i.alike.id ∙ sym h.1))) (Pairs-younger Older i.front i.its i.back pairs),
+        )
 
     go : (states : List (List (List ℕ))) → 0 < length states → Each P (ready_in_harts e.set e.cycle 0 states us)
     go [] s = absurd (omega arith)
