@@ -1,6 +1,7 @@
 pub mod Forms
 pub mod Numbers
 pub mod MemoryLines
+pub mod Registers
 pub mod Reports
 pub mod Steps
 pub mod Judging

@@ -86,8 +86,8 @@ module _ (p q : Target) where
 same_place : (w v : Which) → WriteFault w ≡ WriteFault v → w ≡ v
 same_place w v e = cc
 
-at_file : {A B : Type 0} (w : Which) → (w ≡ which.Trace) ⊎ (w ≡ which.Log) → A → IsFaultedAt A B w
-at_file {A} {B} w is a = elim is [
+at_file : (A B : Type 0) (w : Which) → (w ≡ which.Trace) ⊎ (w ≡ which.Log) → A → IsFaultedAt A B w
+at_file A B w is a = elim is [
   | inl e ↦ subst (IsFaultedAt A B) (sym e) a
   | inr e ↦ subst (IsFaultedAt A B) (sym e) a
 ]
@@ -105,7 +105,7 @@ module _ {S O : Type 0} {files : S → Option Files} {fetch_faults write_faults 
     faulted = λ v e.
         let same : w ≡ v = same_place w v (sym is ∙ e) in
         subst (IsFaultedAt (IsFaulted (faultless old) (write_faults old) (write_faults new)) (IsFaulted (puts_all out) (put_faults out) (put_faults out))) same
-        (at_file w stops.is_file (counted.failed refl, counted.has_faults refl));
+        (at_file (IsFaulted (faultless old) (write_faults old) (write_faults new)) (IsFaulted (puts_all out) (put_faults out) (put_faults out)) w stops.is_file (counted.failed refl, counted.has_faults refl));
     stops = λ v e m told.
         let same : w ≡ v = same_place w v (sym is ∙ e) in
         let left = stops.reported m told in

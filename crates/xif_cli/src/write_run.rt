@@ -2,8 +2,8 @@
 ghost use Rattle.std.specs.Prelude.{◌≡◌, ◌⊎◌, IfErr, IfOk, OnOk, OnErr};
 ghost use Rattle.std.specs.Option.{option_map};
 ghost use Rattle.std.specs.String.{string_bytes};
-ghost use Rattle.cycle_spec.specs.Run.{Run, run_of};
-ghost use Rattle.traced_run.specs.Left.{IsAtEnd, counts_of};
+ghost use Rattle.cycle_spec.specs.Engine.{units_of};
+ghost use Rattle.cycle_spec.specs.Run.{end_by, run_of};
 ghost use Rattle.xif_job.specs.Ranges.{IsLawfulJob};
 ghost use Rattle.xif_sim.specs.Setup.{IsLawfulSetup};
 ghost use Rattle.xif_sim.specs.Simulating.{meaning};
@@ -11,7 +11,7 @@ ghost use Rattle.xif_targets.specs.Targets.{written};
 ghost use Rattle.xif_targets.specs.Writing.{IsWritten, IsWrittenInPart, IsUncounted, IsCountedFail};
 ghost use Rattle.xif_cli.specs.Concluding.{IsFailStatus, StopsWriting};
 ghost use Rattle.xif_cli.specs.InOrder.{step_start};
-ghost use Rattle.xif_cli.specs.Simulated.{setup_of, run_by, targets_of, trace_and_log, simulated_report};
+ghost use Rattle.xif_cli.specs.Simulated.{setup_of, run_by, targets_of, trace_and_log, stop_of, simulated_text, simulated_report};
 
 use crate::report::simulated_report;
 use crate::status::Status;
@@ -152,9 +152,10 @@ fn write_log<S: Shelf>(
     name: &str,
     shelf: &mut S,
 ) -> Result<String, Stop>
-    ensures report { IfOk result (λ text. (run : Run) →
-        IsAtEnd (traced.now).simulation run → (traced.now).counts ≡ counts_of run →
-        string_bytes text ≡ simulated_report run before.now) }
+    ensures report { let core = (traced.now).simulation.machines.core in
+        IfOk result (λ text. string_bytes text ≡ simulated_text (stop_of (end_by core.stopped))
+        core.pc (traced.now).counts.retired (traced.now).counts.cycles core.registers
+        (units_of (traced.now).simulation.machines.engine 0) before.now core.memory) }
     ensures whole { OnOk result (IsWritten (S.files shelf.old) (S.files shelf.new) name.now
         (string_bytes (traced.now).log)) }
     ensures uncounted { OnOk result (IsUncounted S.fetch_faults S.write_faults S.faultless
