@@ -10,3 +10,4 @@ pub mod Judged
 pub mod Concluding
 pub mod Stopping
 pub mod Running
+pub mod Predicted

@@ -1,7 +1,8 @@
 -- What stands where the writing of a run's files stops, and how the command then ends.
 use Rattle.std.proofs.Common.{◌≡◌, ◌⊎◌, inl, inr, ℕ, List, [], ◌∷◌, ◌++◌, take, Option, Some, None, refl, sym, ap, subst, ◌∙◌, arith}
 use Rattle.std.specs.Option.{option_map}
-use Rattle.std.specs.Prelude.{Result, Ok, Err, IfErr}
+use Rattle.std.specs.Prelude.{Result, Ok, Err, IfErr, String}
+use Rattle.std.specs.declared.alloc.Global.{Global}
 use Rattle.std.specs.FinMap as map
 use Rattle.xif_base.specs.Faults.{Rose, CountsFaults}
 use Rattle.xif_base.specs.Files.{Files}
@@ -14,8 +15,14 @@ use Rattle.xif_targets.specs.Writing.{IsWritten, IsWrittenInPart, IsCountedFail}
 use Rattle.xif_cli.specs.declared.status.Status.{Status}
 use Rattle.xif_cli.specs.declared.status.Status.TheVariants.{WriteFault, NoMemory}
 use Rattle.xif_cli.specs.Ending.{IsFaulted, IsFaultedAt}
-use Rattle.xif_cli.specs.Concluding.{IsFailStatus, StopsWriting, IsWriteFail, Delivers}
+use Rattle.xif_cli.specs.Concluding.{IsFailStatus, StopsWriting, IsWriteFail, WritesRun, Delivers}
 use Rattle.xif_cli.specs.Outcome.{Answer, end_status}
+use Rattle.cycle_spec.specs.Run.{Setup, Run}
+use Rattle.xif_image.specs.Image.{Placement}
+use Rattle.xif_job.specs.declared.job.Job.{Job}
+use Rattle.xif_cli.specs.InOrder.{step_start}
+use Rattle.xif_cli.specs.Simulated.{setup_of, run_by, targets_of, trace_and_log, simulated_report}
+use Rattle.xif_cli.specs.declared.write_run.Stop.{Stop}
 use Rattle.xif_cli.specs.declared.answer.End.{End}
 use Rattle.xif_cli.proofs.Concluding.{end_is_no_write_fail}
 
@@ -138,3 +145,32 @@ module _ {S O : Type 0} {files : S → Option Files} {fetch_faults write_faults 
 pub err_both : {T E : Type 0} {P Q R : E → Type 0} (r : Result T E) → ((e : E) → P e → Q e → R e) → IfErr r P → IfErr r Q → IfErr r R
 err_both (Ok x) f p q = tt
 err_both (Err e) f p q = f e p q
+
+-- ---- the files of a run
+
+module _ {S : Type 0} {files : S → Option Files} {fetch_faults write_faults : S → ℕ} {faultless : S → Type 0} where
+  -- memory was out before anything was written
+  pub untouched-run : (shelf : S) (p q : Target) (report : List ℕ) → p.which ≡ which.Trace
+      → WritesRun files fetch_faults write_faults faultless shelf shelf (p ∷ q ∷ []) report (Err (record { which = which.Trace; fail = fail.NoMemory }))
+  untouched-run shelf p q report first = record {
+    reports = tt;
+    whole = tt;
+    uncounted = tt;
+    stops = stops-first p q which.Trace (files shelf) (files shelf) (sym first) first (inl refl);
+    counted = record {
+      fetches = refl;
+      counts = record { count = omega arith; stays_faultless = λ said. said; no_fault = λ said. refl };
+      failed = λ e. cc;
+      has_faults = λ e. cc;
+      no_memory = λ e. refl;
+    };
+  }
+
+  -- what is written by a setup is what is meant by its job
+  pub writes-by : (old new : S) (job : Job) (image : Placement) (setup : Setup) (run : Run) (r : Result (String Global) Stop)
+      → setup ≡ setup_of job image → run ≡ run_by job.predictor (setup_of job image)
+      → WritesRun files fetch_faults write_faults faultless old new (trace_and_log setup.params job.trace job.log run) (simulated_report run setup.memory.bytes) r
+      → WritesRun files fetch_faults write_faults faultless old new (targets_of job (run_by job.predictor (setup_of job image))) (simulated_report (run_by job.predictor (setup_of job image)) (step_start job image).memory.bytes) r
+  writes-by old new job image setup run r same by w =
+      subst (λ s. WritesRun files fetch_faults write_faults faultless old new (trace_and_log s.params job.trace job.log (run_by job.predictor (setup_of job image))) (simulated_report (run_by job.predictor (setup_of job image)) s.memory.bytes) r) same
+      (subst (λ k. WritesRun files fetch_faults write_faults faultless old new (trace_and_log setup.params job.trace job.log k) (simulated_report k setup.memory.bytes) r) by w)

@@ -6,3 +6,6 @@ use Rattle.xif_cli.proofs.run.deliver.Goals as goal
 pub returns-in-Err : goal.returns-in-Err
 returns-in-Err g c =
     stopped c.args.shelf.now c.write_run.new.shelf c.args.out.now (run_answer c.args.job.now c.args.image.now) c.in-Err.stop.which c.in-Err.stop.fail c.status.result c.in-Err.ensures.stops c.in-Err.ensures.counted c.status.ensures
+
+pub returns-in-Ok : goal.returns-in-Ok
+returns-in-Ok g c = ?
