@@ -96,8 +96,8 @@ fn push_counts(
 {
     let word = end_word(stop);
     let (retired, cuts, cycles) = (counts.retired, counts.cuts, counts.cycles);
-    write!(text, "gen retired={retired} cuts={cuts} cycles={cycles} ")?;
-    writeln!(text, "end={word} pc={}", HexWord(pc))
+    write!(text, "gen retired={retired} cuts={cuts} cycles={cycles}")?;
+    writeln!(text, " end={word} pc={}", HexWord(pc))
 }
 
 fn push_values(text: &mut String, x3: u32, x4: u32, accumulator: u64) -> Result<(), AllocError>
