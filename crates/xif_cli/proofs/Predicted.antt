@@ -20,7 +20,7 @@ use Rattle.xif_job.specs.declared.predictor.Kind.TheVariants as kind
 use Rattle.xif_sim.specs.Setup.{IsLawfulSetup}
 use Rattle.xif_sim.specs.Simulating.{Simulating}
 use Rattle.xif_cli.specs.Simulated.{never, backward, bimodal, listed, run_by, stop_of, simulated_text, simulated_report}
-use Rattle.xif_cli.specs.Summary.{counts_line, values_line, summary_of, generated_setup, generated_summary}
+use Rattle.xif_cli.specs.Summary.{counts_text, end_text, values_line, summary_of, generated_setup, generated_summary}
 
 -- ---- runs by the kinds of predictors
 
@@ -35,6 +35,9 @@ run-backward setup p = refl
 pub run-bimodal : (setup : Setup) (bits : ℕ) (p : List ℕ) → p ≡ replicate (2 ^ bits) 1 → run_of bimodal setup p ≡ run_by (kind.Bimodal bits) setup
 unfolding run_by
 run-bimodal setup bits p e = ap (run_of bimodal setup) e
+
+abbrev pub turn_of : List ℕ → Turn
+turn_of targets = record { targets = targets; position = 0 }
 
 pub run-listed : (setup : Setup) (targets : List ℕ) (p : Turn) → p ≡ record { targets = targets; position = 0 } → run_of listed setup p ≡ run_by (kind.Listed targets) setup
 unfolding run_by
@@ -52,7 +55,7 @@ report-is s c run before at counts =
     λ i. simulated_text (stop_of ((sym at.end) i)) ((sym at.pc) i) (retired i) (cycles i) ((sym at.registers) i) ((sym at.units) i) before ((sym at.memory) i)
 
 pub summary-is : (s : Simulating) (c : Counts) (run : Run) → IsAtEnd s run → c ≡ counts_of run
-    → counts_line c.retired c.cuts c.cycles (stop_of (end_by s.machines.core.stopped)) s.machines.core.pc
+    → counts_text c.retired c.cuts c.cycles ++ end_text (stop_of (end_by s.machines.core.stopped)) s.machines.core.pc
     ++ values_line (register_in s.machines.core.registers 3) (register_in s.machines.core.registers 4) (accumulator_of (units_of s.machines.engine 0) 0 0)
     ≡ summary_of run
 unfolding summary_of
@@ -60,7 +63,7 @@ summary-is s c run at counts =
     let retired : c.retired ≡ length run.retired = ap (λ k. k.retired) counts in
     let cuts : c.cuts ≡ length (filter_map (λ log. log.cut) run.logs) = ap (λ k. k.cuts) counts in
     let cycles : c.cycles ≡ length run.buses = ap (λ k. k.cycles) counts in
-    λ i. counts_line (retired i) (cuts i) (cycles i) (stop_of ((sym at.end) i)) ((sym at.pc) i)
+    λ i. counts_text (retired i) (cuts i) (cycles i) ++ end_text (stop_of ((sym at.end) i)) ((sym at.pc) i)
     ++ values_line (register_in ((sym at.registers) i) 3) (register_in ((sym at.registers) i) 4) (accumulator_of ((sym at.units) i) 0 0)
 
 -- ---- the generated run

@@ -1,7 +1,7 @@
 -- What stands where the writing of a run's files stops, and how the command then ends.
 use Rattle.std.proofs.Common.{◌≡◌, ◌⊎◌, inl, inr, ℕ, List, [], ◌∷◌, ◌++◌, take, Option, Some, None, refl, sym, ap, subst, ◌∙◌, arith}
 use Rattle.std.specs.Option.{option_map}
-use Rattle.std.specs.Prelude.{Result, Ok, Err, IfErr, String}
+use Rattle.std.specs.Prelude.{Result, Ok, Err, IfOk, IfErr, OnOk, OnErr, String, string_bytes}
 use Rattle.std.specs.declared.alloc.Global.{Global}
 use Rattle.std.specs.FinMap as map
 use Rattle.xif_base.specs.Faults.{Rose, CountsFaults}
@@ -11,7 +11,11 @@ use Rattle.xif_base.specs.declared.outside.Which.TheVariants as which
 use Rattle.xif_base.specs.declared.outside.WriteFail.{WriteFail}
 use Rattle.xif_base.specs.declared.outside.WriteFail.TheVariants as fail
 use Rattle.xif_targets.specs.Targets.{Target, written, HasFront, StopsAtFile}
-use Rattle.xif_targets.specs.Writing.{IsWritten, IsWrittenInPart, IsCountedFail}
+use Rattle.xif_targets.specs.Writing.{IsWritten, IsWrittenInPart, IsUncounted, IsCountedFail}
+use Rattle.xif_targets.proofs.Growing.{fail-behind, uncounted-behind}
+use Rattle.xif_base.specs.Output.{grown, GrowsByFront}
+use Rattle.xif_cli.specs.Printing.{IsPrintFail}
+use Rattle.xif_cli.specs.declared.answer.End.TheVariants.{Done}
 use Rattle.xif_cli.specs.declared.status.Status.{Status}
 use Rattle.xif_cli.specs.declared.status.Status.TheVariants.{WriteFault, NoMemory}
 use Rattle.xif_cli.specs.Ending.{IsFaulted, IsFaultedAt}
@@ -24,7 +28,7 @@ use Rattle.xif_cli.specs.InOrder.{step_start}
 use Rattle.xif_cli.specs.Simulated.{setup_of, run_by, targets_of, trace_and_log, simulated_report}
 use Rattle.xif_cli.specs.declared.write_run.Stop.{Stop}
 use Rattle.xif_cli.specs.declared.answer.End.{End}
-use Rattle.xif_cli.proofs.Concluding.{end_is_no_write_fail}
+use Rattle.xif_cli.proofs.Concluding.{end_is_no_write_fail, printed}
 
 -- what is left of one file, behind files that are whole
 left-of : (whole rest : List Target) (t : Target) (before : Files) (after : Option Files)
@@ -167,10 +171,63 @@ module _ {S : Type 0} {files : S → Option Files} {fetch_faults write_faults : 
   }
 
   -- what is written by a setup is what is meant by its job
-  pub writes-by : (old new : S) (job : Job) (image : Placement) (setup : Setup) (run : Run) (r : Result (String Global) Stop)
-      → setup ≡ setup_of job image → run ≡ run_by job.predictor (setup_of job image)
-      → WritesRun files fetch_faults write_faults faultless old new (trace_and_log setup.params job.trace job.log run) (simulated_report run setup.memory.bytes) r
+  pub writes-by : (old new : S) (job : Job) (image : Placement) (setup : Setup) (trace log : List ℕ) (run : Run) (r : Result (String Global) Stop)
+      → setup ≡ setup_of job image → trace ≡ job.trace → log ≡ job.log → run ≡ run_by job.predictor (setup_of job image)
+      → WritesRun files fetch_faults write_faults faultless old new (trace_and_log setup.params trace log run) (simulated_report run setup.memory.bytes) r
       → WritesRun files fetch_faults write_faults faultless old new (targets_of job (run_by job.predictor (setup_of job image))) (simulated_report (run_by job.predictor (setup_of job image)) (step_start job image).memory.bytes) r
-  writes-by old new job image setup run r same by w =
-      subst (λ s. WritesRun files fetch_faults write_faults faultless old new (trace_and_log s.params job.trace job.log (run_by job.predictor (setup_of job image))) (simulated_report (run_by job.predictor (setup_of job image)) s.memory.bytes) r) same
-      (subst (λ k. WritesRun files fetch_faults write_faults faultless old new (trace_and_log setup.params job.trace job.log k) (simulated_report k setup.memory.bytes) r) by w)
+  writes-by old new job image setup trace log run r same is_trace is_log by w =
+      let targets : trace_and_log setup.params trace log run ≡ targets_of job (run_by job.predictor (setup_of job image)) =
+          λ i. trace_and_log (same i).params (is_trace i) (is_log i) (by i) in
+      let report : simulated_report run setup.memory.bytes ≡ simulated_report (run_by job.predictor (setup_of job image)) (step_start job image).memory.bytes =
+          λ i. simulated_report (by i) (same i).memory.bytes in
+      subst (λ t. WritesRun files fetch_faults write_faults faultless old new t (simulated_report (run_by job.predictor (setup_of job image)) (step_start job image).memory.bytes) r) targets
+      (subst (λ t. WritesRun files fetch_faults write_faults faultless old new (trace_and_log setup.params trace log run) t r) report w)
+
+  -- a trace that was written, and then a log
+  pub both-files : (old mid new : S) (p q : Target) (log shown report : List ℕ) (r : Result (String Global) Stop)
+      → p.which ≡ which.Trace → q.which ≡ which.Log
+      → IsWritten (files old) (files mid) p.name p.text → IsUncounted fetch_faults write_faults faultless old mid
+      → log ≡ q.text → shown ≡ report
+      → IfOk r (λ text. string_bytes text ≡ shown)
+      → OnOk r (IsWritten (files mid) (files new) q.name log)
+      → OnOk r (IsUncounted fetch_faults write_faults faultless mid new)
+      → IfErr r (λ stop. stop.which ≡ which.Log)
+      → OnErr r ((files new ≡ files mid) ⊎ IsWrittenInPart (files mid) (files new) q.name log)
+      → IfErr r (λ stop. IsCountedFail fetch_faults write_faults faultless mid new stop.fail)
+      → WritesRun files fetch_faults write_faults faultless old new (p ∷ q ∷ []) report r
+  both-files old mid new p q log shown report (Ok text) first second is_trace none is_log is_shown shows writes later at part counted = record {
+    reports = shows ∙ is_shown;
+    whole = both-written p q (files old) (files mid) (files new) is_trace (subst (IsWritten (files mid) (files new) q.name) is_log writes);
+    uncounted = uncounted-behind none later;
+    stops = tt;
+    counted = tt;
+  }
+  both-files old mid new p q log shown report (Err stop) first second is_trace none is_log is_shown shows writes later at part counted = record {
+    reports = tt;
+    whole = tt;
+    uncounted = tt;
+    stops = stops-second p q stop.which (files old) (files mid) (files new) (at ∙ sym second) second is_trace (elim part [
+      | inl same ↦ inl same
+      | inr front ↦ inr (subst (IsWrittenInPart (files mid) (files new) q.name) is_log front)
+    ]);
+    counted = fail-behind stop.fail none counted;
+  }
+
+module _ {S O : Type 0} {files : S → Option Files} {fetch_faults write_faults : S → ℕ} {faultless : S → Type 0} {put_bytes : O → Option (List ℕ)} {put_faults : O → ℕ} {puts_all : O → Type 0} where
+  -- the report that is printed behind the files
+  pub reported : (old new : S) (out_old out_new : O) (targets : List Target) (report text : List ℕ) (status : Status)
+      → text ≡ report
+      → IsUncounted fetch_faults write_faults faultless old new
+      → files new ≡ option_map (written targets) (files old)
+      → (status ≡ end_status Done) ⊎ IsPrintFail status
+      → ((end : End) → status ≡ end_status end → put_bytes out_new ≡ grown (put_bytes out_old) text)
+      → (IsPrintFail status → GrowsByFront (put_bytes out_old) (put_bytes out_new) text)
+      → (status ≡ WriteFault which.Output → IsFaulted (puts_all out_old) (put_faults out_old) (put_faults out_new))
+      → (put_faults out_new ≡ put_faults out_old) ⊎ (status ≡ WriteFault which.Output)
+      → CountsFaults put_faults puts_all out_old out_new
+      → Delivers files fetch_faults write_faults faultless put_bytes put_faults puts_all old new out_old out_new (record { end = Done; targets = targets; printed = report }) status
+  reported old new out_old out_new targets report text status is none is_written ends puts fronts faults counted counts =
+      printed old new out_old out_new (record { end = Done; targets = targets; printed = report }) status none is_written ends
+      (λ end e. puts end e ∙ ap (grown (put_bytes out_old)) is)
+      (λ failed. subst (GrowsByFront (put_bytes out_old) (put_bytes out_new)) is (fronts failed))
+      faults counted counts

@@ -25,12 +25,15 @@ generated_setup seed count = record {
   entry = 0;
 }
 
--- how the run ended, with its counts
-abbrev pub counts_line : (retired cuts cycles : ℕ) → Option StopCause → (pc : ℕ) → List ℕ
-counts_line retired cuts cycles stop pc =
+-- the counts of the run, and how it ended, on one line
+abbrev pub counts_text : (retired cuts cycles : ℕ) → List ℕ
+counts_text retired cuts cycles =
     codes "gen retired=" ++ decimal retired ++ codes " cuts=" ++ decimal cuts
-    ++ codes " cycles=" ++ decimal cycles ++ codes " end=" ++ end_word stop
-    ++ codes " pc=" ++ hex_word pc ++ codes "\n"
+    ++ codes " cycles=" ++ decimal cycles
+
+abbrev pub end_text : Option StopCause → (pc : ℕ) → List ℕ
+end_text stop pc =
+    codes " end=" ++ end_word stop ++ codes " pc=" ++ hex_word pc ++ codes "\n"
 
 -- the halves of the accumulator as the program read them, and the accumulator
 abbrev pub values_line : (x3 x4 accumulator : ℕ) → List ℕ
@@ -40,8 +43,9 @@ values_line x3 x4 accumulator =
 
 unfoldable pub summary_of : Run → List ℕ
 summary_of run =
-    counts_line (length run.retired) (length (filter_map (λ log. log.cut) run.logs))
-    (length run.buses) (stop_of run.end) run.pc
+    counts_text (length run.retired) (length (filter_map (λ log. log.cut) run.logs))
+    (length run.buses)
+    ++ end_text (stop_of run.end) run.pc
     ++ values_line (register_in run.registers 3) (register_in run.registers 4)
     (accumulator_of run.units 0 0)
 

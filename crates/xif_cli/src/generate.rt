@@ -9,7 +9,7 @@ ghost use Rattle.coproc_config.specs.State.{accumulator_of};
 ghost use Rattle.xif_sim.specs.Setup.{IsLawfulSetup};
 ghost use Rattle.xif_cli.specs.Outcome.{prints};
 ghost use Rattle.xif_cli.specs.Simulated.{stop_of};
-ghost use Rattle.xif_cli.specs.Summary.{counts_line, values_line, generated_setup, generated_summary};
+ghost use Rattle.xif_cli.specs.Summary.{counts_text, end_text, values_line, generated_setup, generated_summary};
 
 use crate::answer::{Answer, End};
 use crate::report::{end_word, stop_of};
@@ -71,32 +71,33 @@ fn setup(alloc: Global, seed: u32, count: u32) -> Result<Setup, NoMemory>
 fn summary_of(alloc: Global, ran: &Ran) -> Result<String, NoMemory>
     ensures { let core = (ran.now).simulation.machines.core in
         IfOk result (λ text. string_bytes text
-        ≡ counts_line (ran.now).counts.retired (ran.now).counts.cuts (ran.now).counts.cycles
-        (stop_of (end_by core.stopped)) core.pc
+        ≡ counts_text (ran.now).counts.retired (ran.now).counts.cuts (ran.now).counts.cycles
+        ++ end_text (stop_of (end_by core.stopped)) core.pc
         ++ values_line (register_in core.registers 3) (register_in core.registers 4)
         (accumulator_of (units_of (ran.now).simulation.machines.engine 0) 0 0)) }
 {
     let simulation = &ran.simulation;
     let mut text = String::new(alloc);
-    push_counts(&mut text, ran.counts, stop_of(simulation.end()), simulation.pc())?;
+    push_counts(&mut text, ran.counts)?;
+    push_end(&mut text, stop_of(simulation.end()), simulation.pc())?;
     let registers = simulation.registers();
     let accumulator = first_accumulator(simulation.states());
     push_values(&mut text, registers.get(3), registers.get(4), accumulator)?;
     Ok(text)
 }
 
-fn push_counts(
-    text: &mut String,
-    counts: Counts,
-    stop: Option<StopCause>,
-    pc: u32,
-) -> Result<(), AllocError>
+fn push_counts(text: &mut String, counts: Counts) -> Result<(), AllocError>
     ensures { OnOk result (Appends text.old text.new
-        (counts_line counts.retired counts.cuts counts.cycles stop pc)) }
+        (counts_text counts.retired counts.cuts counts.cycles)) }
+{
+    let (retired, cuts, cycles) = (counts.retired, counts.cuts, counts.cycles);
+    write!(text, "gen retired={retired} cuts={cuts} cycles={cycles}")
+}
+
+fn push_end(text: &mut String, stop: Option<StopCause>, pc: u32) -> Result<(), AllocError>
+    ensures { OnOk result (Appends text.old text.new (end_text stop pc)) }
 {
     let word = end_word(stop);
-    let (retired, cuts, cycles) = (counts.retired, counts.cuts, counts.cycles);
-    write!(text, "gen retired={retired} cuts={cuts} cycles={cycles}")?;
     writeln!(text, " end={word} pc={}", HexWord(pc))
 }
 
