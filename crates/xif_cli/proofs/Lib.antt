@@ -11,3 +11,4 @@ pub mod Concluding
 pub mod Stopping
 pub mod Running
 pub mod Predicted
+pub mod Printed

@@ -28,7 +28,7 @@ pub run_can_end : {S O : Type 0} {files : S → Option Files} {fetch_faults writ
     (old new : S) (out_old out_new : O) (name : List ℕ) (answer : Answer) (status : Status) → answer.end ≡ end.Done
     → Delivers files fetch_faults write_faults faultless put_bytes put_faults puts_all old new out_old out_new answer status
     → IsTrue (can_end (form.Run name) status)
-run_can_end old new out_old out_new name answer status done d = elim d.ends [
+run_can_end {write_faults = write_faults} {faultless = faultless} {put_faults = put_faults} {puts_all = puts_all} old new out_old out_new name answer status done d = elim d.ends [
   | inl e ↦ subst (λ s. IsTrue (can_end (form.Run name) s)) (sym e) (subst (λ x. IsTrue (can_end (form.Run name) (end_status x))) (sym done) refl)
   | inr fail ↦ elim fail [
     | inl fault ↦ subst (λ s. IsTrue (can_end (form.Run name) s)) (sym fault.1) (is_target (IsFaulted (faultless old) (write_faults old) (write_faults new)) (IsFaulted (puts_all out_old) (put_faults out_old) (put_faults out_new)) name fault.0 (d.faulted fault.0 fault.1))
