@@ -1,6 +1,7 @@
 pub mod Forms
 pub mod Numbers
 pub mod MemoryLines
+pub mod Registers
 pub mod Reports
 pub mod Steps
 pub mod Judging
@@ -9,3 +10,5 @@ pub mod Judged
 pub mod Concluding
 pub mod Stopping
 pub mod Running
+pub mod Predicted
+pub mod Printed

@@ -16,22 +16,22 @@ use Rattle.xif_cli.specs.Reading.{can_refuse_job, can_refuse_image}
 use Rattle.xif_cli.specs.Words as form
 
 
-is_target : {A B : Type 0} (name : List ℕ) (w : Which) → IsFaultedAt A B w → IsTrue (writes (form.Run name) w)
-is_target name which.Trace a = refl
-is_target name which.Log a = refl
-is_target name which.Output b = refl
-is_target name which.Job a = absurd a
-is_target name which.Image a = absurd a
-is_target name which.Waveform a = absurd a
+is_target : (A B : Type 0) (name : List ℕ) (w : Which) → IsFaultedAt A B w → IsTrue (writes (form.Run name) w)
+is_target A B name which.Trace a = refl
+is_target A B name which.Log a = refl
+is_target A B name which.Output b = refl
+is_target A B name which.Job a = absurd a
+is_target A B name which.Image a = absurd a
+is_target A B name which.Waveform a = absurd a
 
 pub run_can_end : {S O : Type 0} {files : S → Option Files} {fetch_faults write_faults : S → ℕ} {faultless : S → Type 0} {put_bytes : O → Option (List ℕ)} {put_faults : O → ℕ} {puts_all : O → Type 0}
     (old new : S) (out_old out_new : O) (name : List ℕ) (answer : Answer) (status : Status) → answer.end ≡ end.Done
     → Delivers files fetch_faults write_faults faultless put_bytes put_faults puts_all old new out_old out_new answer status
     → IsTrue (can_end (form.Run name) status)
-run_can_end old new out_old out_new name answer status done d = elim d.ends [
+run_can_end {write_faults = write_faults} {faultless = faultless} {put_faults = put_faults} {puts_all = puts_all} old new out_old out_new name answer status done d = elim d.ends [
   | inl e ↦ subst (λ s. IsTrue (can_end (form.Run name) s)) (sym e) (subst (λ x. IsTrue (can_end (form.Run name) (end_status x))) (sym done) refl)
   | inr fail ↦ elim fail [
-    | inl fault ↦ subst (λ s. IsTrue (can_end (form.Run name) s)) (sym fault.1) (is_target name fault.0 (d.faulted fault.0 fault.1))
+    | inl fault ↦ subst (λ s. IsTrue (can_end (form.Run name) s)) (sym fault.1) (is_target (IsFaulted (faultless old) (write_faults old) (write_faults new)) (IsFaulted (puts_all out_old) (put_faults out_old) (put_faults out_new)) name fault.0 (d.faulted fault.0 fault.1))
     | inr none ↦ subst (λ s. IsTrue (can_end (form.Run name) s)) (sym none) refl
   ]
 ]

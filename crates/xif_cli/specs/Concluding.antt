@@ -1,6 +1,6 @@
 -- How the commands conclude. Internal: what the contracts of private functions cite; nothing here
 -- has to be believed.
-use Rattle.std.specs.Prelude.{◌≡◌, ◌⊎◌, ℕ, List, Option, Some, None, Result, Ok, Err}
+use Rattle.std.specs.Prelude.{◌≡◌, ◌⊎◌, ℕ, List, Option, Some, None, Result, Ok, Err, IfOk, IfErr, OnOk, String, string_bytes}
 use Rattle.std.specs.Option.{option_map}
 use Rattle.xif_base.specs.Faults.{CountsFaults, OnlyReads}
 use Rattle.xif_base.specs.Files.{Files}
@@ -10,6 +10,9 @@ use Rattle.xif_base.specs.declared.outside.Which.TheVariants.{Trace, Log, Output
 use Rattle.xif_base.specs.declared.outside.WriteFail.{WriteFail}
 use Rattle.xif_base.specs.declared.outside.WriteFail.TheVariants as fail
 use Rattle.xif_targets.specs.Targets.{Target, written, StopsAtFile}
+use Rattle.std.specs.declared.alloc.Global.{Global}
+use Rattle.xif_targets.specs.Writing.{IsUncounted, IsCountedFail}
+use Rattle.xif_cli.specs.declared.write_run.Stop.{Stop}
 use Rattle.xif_cli.specs.declared.answer.End.{End}
 use Rattle.xif_cli.specs.declared.status.Status.{Status}
 use Rattle.xif_cli.specs.declared.status.Status.TheVariants.{ReadFault, WriteFault, NoMemory}
@@ -33,6 +36,18 @@ pub record StopsWriting (w : Which) (targets : List Target) (before after : Opti
   pub reported : (m : Files) → before ≡ Some m →
       (left : Files) × ((after ≡ Some left) × StopsAtFile w targets m left)
   pub unreported : before ≡ None → after ≡ None
+
+-- The files of a run are written, and its report is returned, or the writing stops in one of them.
+-- The first four are the meanings of the shelf.
+pub record WritesRun {S : Type 0} (files : S → Option Files) (fetch_faults write_faults : S → ℕ)
+    (faultless : S → Type 0) (old new : S) (targets : List Target) (report : List ℕ)
+    (r : Result (String Global) Stop) : Type 0 where
+  pub reports : IfOk r (λ text. string_bytes text ≡ report)
+  pub whole : OnOk r (files new ≡ option_map (written targets) (files old))
+  pub uncounted : OnOk r (IsUncounted fetch_faults write_faults faultless old new)
+  pub stops : IfErr r (λ stop. StopsWriting stop.which targets (files old) (files new))
+  pub counted : IfErr r (λ stop.
+      IsCountedFail fetch_faults write_faults faultless old new stop.fail)
 
 -- The files of an answer are written and its text is printed, in order, and it ends with this
 -- status. The first seven are the meanings of shelf and output.

@@ -27,7 +27,7 @@ register_line number value =
     else codes "x" ++ decimal number ++ codes "=" ++ hex_word value ++ codes "\n"
 
 -- the lines of the registers x1 to x31
-abbrev pub register_lines : List ℕ → List ℕ
+unfoldable pub register_lines : List ℕ → List ℕ
 register_lines registers =
     flat_map (λ i. register_line i (register_in registers i)) (range_with_len 1 31)
 
@@ -70,3 +70,7 @@ abbrev pub report_of : Option StopCause → ℕ → State → List ℕ → List 
 report_of stop retired s before =
     outcome_text stop s.pc retired ++ codes "\n"
     ++ register_lines s.registers ++ accumulator_lines s.units ++ memory_lines before s.memory
+
+-- how many cycles a simulated run took, behind its outcome on the first line
+abbrev pub cycles_text : ℕ → List ℕ
+cycles_text cycles = codes " cycles=" ++ decimal cycles ++ codes "\n"

@@ -1,6 +1,5 @@
 -- What is simulated of a job, and what is written of a run.
 use Rattle.std.specs.Prelude.{ℕ, ◌++◌, ◌^◌, List, [], ◌∷◌, Option, Some, None, length, replicate}
-use Rattle.std.specs.Fmt.{decimal}
 use Rattle.xif_base.specs.declared.outside.Which.TheVariants as which
 use Rattle.xif_base.specs.declared.params.Params.{Params}
 use Rattle.cycle_spec.specs.Run.{Setup, Meaning, Run, run_of}
@@ -18,8 +17,8 @@ use Rattle.run_log.specs.Log.{text_of}
 use Rattle.trace_file.specs.Tracing.{trace_text}
 use Rattle.xif_targets.specs.Targets.{Target}
 use Rattle.xif_cli.specs.InOrder.{step_start}
-use Rattle.xif_cli.specs.Report.{outcome_text, register_lines, accumulator_lines, memory_lines}
-use lib.Chars.{codes}
+use Rattle.xif_image.specs.Region.{Region}
+use Rattle.xif_cli.specs.Report.{outcome_text, cycles_text, register_lines, accumulator_lines, memory_lines}
 
 -- ---- what is simulated
 
@@ -82,10 +81,15 @@ abbrev pub stop_of : End → Option StopCause
 stop_of (Stopped cause) = Some cause
 stop_of Budget = None
 
+-- the report of a simulated run
+abbrev pub simulated_text : Option StopCause → (pc retired cycles : ℕ) → (registers : List ℕ) →
+    (units : List (List ℕ)) → (before : List ℕ) → (after : Region) → List ℕ
+simulated_text stop pc retired cycles registers units before after =
+    outcome_text stop pc retired ++ cycles_text cycles
+    ++ register_lines registers ++ accumulator_lines units ++ memory_lines before after
+
 -- the report of a run, of which these were the bytes of the memory before it
 unfoldable pub simulated_report : Run → (before : List ℕ) → List ℕ
 simulated_report run before =
-    outcome_text (stop_of run.end) run.pc (length run.retired)
-    ++ codes " cycles=" ++ decimal (length run.buses) ++ codes "\n"
-    ++ register_lines run.registers ++ accumulator_lines run.units
-    ++ memory_lines before run.memory
+    simulated_text (stop_of run.end) run.pc (length run.retired) (length run.buses)
+    run.registers run.units before run.memory

@@ -1,21 +1,24 @@
 //! The command `gen SEED COUNT`.
-ghost use Rattle.std.specs.Prelude.{◌≡◌, ◌≤◌, IfErr, IfOk};
+ghost use Rattle.std.specs.Prelude.{◌≡◌, ◌≤◌, ◌++◌, IfErr, IfOk, OnOk};
 ghost use Rattle.std.specs.String.{string_bytes};
-ghost use Rattle.cycle_spec.specs.Run.{Run};
-ghost use Rattle.traced_run.specs.Left.{IsAtEnd, counts_of};
+ghost use Rattle.cycle_spec.specs.Engine.{units_of};
+ghost use Rattle.cycle_spec.specs.Run.{end_by};
+ghost use Rattle.inorder_machine.specs.Machine.{register_in};
+ghost use Rattle.run_log.specs.Growth.{Appends};
 ghost use Rattle.coproc_config.specs.State.{accumulator_of};
 ghost use Rattle.xif_sim.specs.Setup.{IsLawfulSetup};
 ghost use Rattle.xif_cli.specs.Outcome.{prints};
-ghost use Rattle.xif_cli.specs.Simulated.{run_by};
-ghost use Rattle.xif_cli.specs.Summary.{generated_setup, generated_summary, summary_of};
+ghost use Rattle.xif_cli.specs.Simulated.{stop_of};
+ghost use Rattle.xif_cli.specs.Summary.{counts_text, end_text, values_line, generated_setup, generated_summary};
 
 use crate::answer::{Answer, End};
 use crate::report::{end_word, stop_of};
 use crate::status::Status;
 use coproc_config::UnitState;
+use inorder_machine::StopCause;
 use run_log::{HexDouble, HexWord};
-use std::alloc::Global;
-use traced_run::{Ran, run_counted};
+use std::alloc::{AllocError, Global};
+use traced_run::{Counts, Ran, run_counted};
 use xif_base::NoMemory;
 use xif_drive::Never;
 use xif_sim::Setup;
@@ -38,7 +41,6 @@ pub(crate) fn gen_answer(alloc: Global, seed: u32, count: u32) -> Result<Answer,
 }
 
 // What is printed of the run.
-#[tactic(auto, unfolding(crate::specs::Summary::generated_summary, crate::specs::Simulated::run_by))]
 fn summary(alloc: Global, seed: u32, count: u32) -> Result<String, NoMemory>
     requires { count ≤ 20000 }
     ensures { IfOk result (λ text. string_bytes text ≡ generated_summary seed count) }
@@ -67,21 +69,43 @@ fn setup(alloc: Global, seed: u32, count: u32) -> Result<Setup, NoMemory>
 
 // The two lines of a run.
 fn summary_of(alloc: Global, ran: &Ran) -> Result<String, NoMemory>
-    ensures { IfOk result (λ text. (run : Run) →
-        IsAtEnd (ran.now).simulation run → (ran.now).counts ≡ counts_of run →
-        string_bytes text ≡ summary_of run) }
+    ensures { let core = (ran.now).simulation.machines.core in
+        IfOk result (λ text. string_bytes text
+        ≡ counts_text (ran.now).counts.retired (ran.now).counts.cuts (ran.now).counts.cycles
+        ++ end_text (stop_of (end_by core.stopped)) core.pc
+        ++ values_line (register_in core.registers 3) (register_in core.registers 4)
+        (accumulator_of (units_of (ran.now).simulation.machines.engine 0) 0 0)) }
 {
     let simulation = &ran.simulation;
-    let registers = simulation.registers();
-    let counts = ran.counts;
     let mut text = String::new(alloc);
-    write!(text, "gen retired={} cuts={}", counts.retired, counts.cuts)?;
-    let word = end_word(stop_of(simulation.end()));
-    writeln!(text, " cycles={} end={word} pc={}", counts.cycles, HexWord(simulation.pc()))?;
-    write!(text, "x3={} x4={}", HexWord(registers.get(3)), HexWord(registers.get(4)))?;
+    push_counts(&mut text, ran.counts)?;
+    push_end(&mut text, stop_of(simulation.end()), simulation.pc())?;
+    let registers = simulation.registers();
     let accumulator = first_accumulator(simulation.states());
-    writeln!(text, " u0.a0={}", HexDouble(accumulator))?;
+    push_values(&mut text, registers.get(3), registers.get(4), accumulator)?;
     Ok(text)
+}
+
+fn push_counts(text: &mut String, counts: Counts) -> Result<(), AllocError>
+    ensures { OnOk result (Appends text.old text.new
+        (counts_text counts.retired counts.cuts counts.cycles)) }
+{
+    let (retired, cuts, cycles) = (counts.retired, counts.cuts, counts.cycles);
+    write!(text, "gen retired={retired} cuts={cuts} cycles={cycles}")
+}
+
+fn push_end(text: &mut String, stop: Option<StopCause>, pc: u32) -> Result<(), AllocError>
+    ensures { OnOk result (Appends text.old text.new (end_text stop pc)) }
+{
+    let word = end_word(stop);
+    writeln!(text, " end={word} pc={}", HexWord(pc))
+}
+
+fn push_values(text: &mut String, x3: u32, x4: u32, accumulator: u64) -> Result<(), AllocError>
+    ensures { OnOk result (Appends text.old text.new (values_line x3 x4 accumulator)) }
+{
+    write!(text, "x3={} x4={}", HexWord(x3), HexWord(x4))?;
+    writeln!(text, " u0.a0={}", HexDouble(accumulator))
 }
 
 // Accumulator 0 of unit 0, or 0 if there is none.

@@ -115,7 +115,7 @@ fn perform<S: Shelf, O: Out>(
     shelf: &mut S,
     out: &mut O,
 ) -> Status
-    requires { IsInRange (form_of command.entry) }
+    requires { IsInRange (form_of command) }
     ensures concludes { Concludes S.files S.fetch_faults S.write_faults S.faultless
         O.put_bytes O.faults O.faultless shelf.old shelf.new out.old out.new
         (command_outcome (form_of command.entry)) result }
@@ -138,8 +138,8 @@ fn print_command<S: Shelf, O: Out>(
     shelf: &mut S,
     out: &mut O,
 ) -> Status
-    requires in_range { IsInRange (form_of command.entry) }
-    requires no_targets { has_targets (form_of command.entry) ≡ false }
+    requires in_range { IsInRange (form_of command) }
+    requires no_targets { has_targets (form_of command) ≡ false }
     ensures concludes { Concludes S.files S.fetch_faults S.write_faults S.faultless
         O.put_bytes O.faults O.faultless shelf.old shelf.new out.old out.new
         (command_outcome (form_of command.entry)) result }
@@ -157,8 +157,8 @@ fn print_command<S: Shelf, O: Out>(
 
 // What a command returns over the files that writes none.
 fn answer_of<S: Shelf>(alloc: Global, command: Command<'_>, shelf: &mut S) -> Result<Answer, Status>
-    requires in_range { IsInRange (form_of command.entry) }
-    requires no_targets { has_targets (form_of command.entry) ≡ false }
+    requires in_range { IsInRange (form_of command) }
+    requires no_targets { has_targets (form_of command) ≡ false }
     ensures ends { Ends S.files S.fetch_faults S.write_faults S.faultless shelf.old shelf.new
         (command_outcome (form_of command.entry)) (seen (λ answer. answer) result) }
     ensures ok { IfOk result (λ answer. IsTrue (is_built (form_of command.entry))

@@ -2,10 +2,10 @@
 ghost use Rattle.std.specs.Prelude.{◌≡◌, ◌<◌, ◌*◌, ◌+◌, ◌^◌, OnOk, IfOk, slice_index};
 ghost use Rattle.std.specs.String.{string_bytes};
 ghost use Rattle.run_log.specs.Growth.{Appends};
-ghost use Rattle.cycle_spec.specs.Run.{Run};
-ghost use Rattle.traced_run.specs.Left.{IsAtEnd, counts_of};
-ghost use Rattle.xif_cli.specs.Simulated.{stop_of, simulated_report};
-ghost use Rattle.xif_cli.specs.Report.{end_word, outcome_text, register_line, register_lines, accumulator_line, unit_lines, accumulator_lines, memory_word, memory_line, memory_lines, report_of};
+ghost use Rattle.cycle_spec.specs.Engine.{units_of};
+ghost use Rattle.cycle_spec.specs.Run.{end_by};
+ghost use Rattle.xif_cli.specs.Simulated.{stop_of, simulated_text};
+ghost use Rattle.xif_cli.specs.Report.{end_word, outcome_text, cycles_text, register_line, register_lines, accumulator_line, unit_lines, accumulator_lines, memory_word, memory_line, memory_lines, report_of};
 
 use coproc_config::UnitState;
 use cycle_spec::End;
@@ -42,24 +42,32 @@ pub(crate) fn report(
 
 /// What is printed of a simulated run that is over; `before` has the bytes of its memory at the
 /// start.
-#[tactic(auto, unfolding(crate::specs::Simulated::simulated_report))]
 pub(crate) fn simulated_report(
     alloc: Global,
     simulation: &Simulation,
     counts: Counts,
     before: &[u8],
 ) -> Result<String, NoMemory>
-    ensures { IfOk result (λ text. (run : Run) →
-        IsAtEnd simulation.now run → counts ≡ counts_of run →
-        string_bytes text ≡ simulated_report run before.now) }
+    ensures { let core = (simulation.now).machines.core in
+        IfOk result (λ text. string_bytes text ≡ simulated_text (stop_of (end_by core.stopped))
+        core.pc counts.retired counts.cycles core.registers
+        (units_of (simulation.now).machines.engine 0) before.now core.memory) }
 {
     let mut text = String::new(alloc);
-    push_outcome(&mut text, stop_of(simulation.end()), simulation.pc(), counts.retired)?;
-    writeln!(text, " cycles={}", counts.cycles)?;
+    let stop = stop_of(simulation.end());
+    push_outcome(&mut text, stop, simulation.pc(), counts.retired)?;
+    push_cycles(&mut text, counts.cycles)?;
     push_core_registers(&mut text, simulation.registers())?;
     push_accumulators(&mut text, simulation.states())?;
     push_memory(&mut text, before, simulation.memory())?;
     Ok(text)
+}
+
+// Appends the number of cycles, and ends the line.
+fn push_cycles(text: &mut String, cycles: u64) -> Result<(), AllocError>
+    ensures { OnOk result (Appends text.old text.new (cycles_text cycles)) }
+{
+    writeln!(text, " cycles={cycles}")
 }
 
 /// What stopped a simulated run, if something did.
@@ -100,9 +108,15 @@ fn push_registers(text: &mut String, registers: &[u32]) -> Result<(), AllocError
     ensures { OnOk result (Appends text.old text.new (register_lines registers.now)) }
 {
     for number in 1..32 {
-        push_register(text, number, registers.get(number).copied().unwrap_or(0))?;
+        push_register(text, number, register_at(registers, number))?;
     }
     Ok(())
+}
+
+fn register_at(registers: &[u32], number: usize) -> u32
+    ensures { result ≡ slice_index registers.now number }
+{
+    registers.get(number).copied().unwrap_or(0)
 }
 
 // Appends the lines of the registers of the core.

@@ -1,17 +1,15 @@
 //! The files of a run.
 ghost use Rattle.std.specs.Prelude.{◌≡◌, ◌⊎◌, IfErr, IfOk, OnOk, OnErr};
-ghost use Rattle.std.specs.Option.{option_map};
 ghost use Rattle.std.specs.String.{string_bytes};
-ghost use Rattle.cycle_spec.specs.Run.{Run, run_of};
-ghost use Rattle.traced_run.specs.Left.{IsAtEnd, counts_of};
+ghost use Rattle.cycle_spec.specs.Engine.{units_of};
+ghost use Rattle.cycle_spec.specs.Run.{end_by, run_of};
 ghost use Rattle.xif_job.specs.Ranges.{IsLawfulJob};
 ghost use Rattle.xif_sim.specs.Setup.{IsLawfulSetup};
 ghost use Rattle.xif_sim.specs.Simulating.{meaning};
-ghost use Rattle.xif_targets.specs.Targets.{written};
 ghost use Rattle.xif_targets.specs.Writing.{IsWritten, IsWrittenInPart, IsUncounted, IsCountedFail};
-ghost use Rattle.xif_cli.specs.Concluding.{IsFailStatus, StopsWriting};
+ghost use Rattle.xif_cli.specs.Concluding.{IsFailStatus, WritesRun};
 ghost use Rattle.xif_cli.specs.InOrder.{step_start};
-ghost use Rattle.xif_cli.specs.Simulated.{setup_of, run_by, targets_of, trace_and_log, simulated_report};
+ghost use Rattle.xif_cli.specs.Simulated.{setup_of, run_by, targets_of, trace_and_log, stop_of, simulated_text, simulated_report};
 
 use crate::report::simulated_report;
 use crate::status::Status;
@@ -45,7 +43,6 @@ impl Stop {
 
 /// Simulates a job with its image, and writes the trace while the run goes on, and then the log.
 /// The report, which is yet to be printed, is returned.
-#[tactic(auto, unfolding(crate::specs::Simulated::run_by))]
 pub(crate) fn write_run<S: Shelf>(
     alloc: Global,
     job: &Job,
@@ -54,19 +51,10 @@ pub(crate) fn write_run<S: Shelf>(
 ) -> Result<String, Stop>
     requires lawful { IsLawfulJob job.now }
     requires memory { (image.now.base ≡ job.now.base) × (image.now.size ≡ job.now.size) }
-    ensures report { IfOk result (λ text. string_bytes text
-        ≡ simulated_report (run_by (job.now).predictor (setup_of job.now image.now))
-        (step_start job.now image.now).memory.bytes) }
-    ensures files { OnOk result (S.files shelf.new ≡ option_map (written
-        (targets_of job.now (run_by (job.now).predictor (setup_of job.now image.now))))
-        (S.files shelf.old)) }
-    ensures uncounted { OnOk result (IsUncounted S.fetch_faults S.write_faults S.faultless
-        shelf.old shelf.new) }
-    ensures stops { IfErr result (λ stop. StopsWriting stop.which
-        (targets_of job.now (run_by (job.now).predictor (setup_of job.now image.now)))
-        (S.files shelf.old) (S.files shelf.new)) }
-    ensures counted { IfErr result (λ stop. IsCountedFail S.fetch_faults S.write_faults S.faultless
-        shelf.old shelf.new stop.fail) }
+    ensures { let run = run_by (job.now).predictor (setup_of job.now image.now) in
+        WritesRun S.files S.fetch_faults S.write_faults S.faultless shelf.old shelf.new
+        (targets_of job.now run)
+        (simulated_report run (step_start job.now image.now).memory.bytes) result }
 {
     let Ok(setup) = setup(alloc, job, image) else {
         return Err(UNTOUCHED);
@@ -122,20 +110,10 @@ fn write_with<S: Shelf, P: Predictor>(
     shelf: &mut S,
 ) -> Result<String, Stop>
     requires { IsLawfulSetup setup.now }
-    ensures report { IfOk result (λ text. string_bytes text
-        ≡ simulated_report (run_of (meaning P.answer P.after) setup.now predictor.old)
-        (setup.now).memory.bytes) }
-    ensures files { OnOk result (S.files shelf.new ≡ option_map (written
-        (trace_and_log (setup.now).params trace.now log.now
-        (run_of (meaning P.answer P.after) setup.now predictor.old))) (S.files shelf.old)) }
-    ensures uncounted { OnOk result (IsUncounted S.fetch_faults S.write_faults S.faultless
-        shelf.old shelf.new) }
-    ensures stops { IfErr result (λ stop. StopsWriting stop.which
-        (trace_and_log (setup.now).params trace.now log.now
-        (run_of (meaning P.answer P.after) setup.now predictor.old))
-        (S.files shelf.old) (S.files shelf.new)) }
-    ensures counted { IfErr result (λ stop. IsCountedFail S.fetch_faults S.write_faults S.faultless
-        shelf.old shelf.new stop.fail) }
+    ensures { let run = run_of (meaning P.answer P.after) setup.now predictor.old in
+        WritesRun S.files S.fetch_faults S.write_faults S.faultless shelf.old shelf.new
+        (trace_and_log (setup.now).params trace.now log.now run)
+        (simulated_report run (setup.now).memory.bytes) result }
 {
     match run_traced(alloc, setup, predictor, shelf, trace) {
         Ok(traced) => write_log(alloc, &traced, setup.memory.bytes(), log, shelf),
@@ -152,9 +130,10 @@ fn write_log<S: Shelf>(
     name: &str,
     shelf: &mut S,
 ) -> Result<String, Stop>
-    ensures report { IfOk result (λ text. (run : Run) →
-        IsAtEnd (traced.now).simulation run → (traced.now).counts ≡ counts_of run →
-        string_bytes text ≡ simulated_report run before.now) }
+    ensures report { let core = (traced.now).simulation.machines.core in
+        IfOk result (λ text. string_bytes text ≡ simulated_text (stop_of (end_by core.stopped))
+        core.pc (traced.now).counts.retired (traced.now).counts.cycles core.registers
+        (units_of (traced.now).simulation.machines.engine 0) before.now core.memory) }
     ensures whole { OnOk result (IsWritten (S.files shelf.old) (S.files shelf.new) name.now
         (string_bytes (traced.now).log)) }
     ensures uncounted { OnOk result (IsUncounted S.fetch_faults S.write_faults S.faultless

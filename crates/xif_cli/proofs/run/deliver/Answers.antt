@@ -1,7 +1,19 @@
+use Rattle.std.specs.String.{string_bytes}
+use Rattle.xif_cli.specs.InOrder.{step_start}
 use Rattle.xif_cli.specs.Outcome.{run_answer}
-use Rattle.xif_cli.proofs.Concluding.{printed}
-use Rattle.xif_cli.proofs.Stopping.{stopped}
+use Rattle.xif_cli.specs.Simulated.{setup_of, run_by, targets_of, simulated_report}
+use Rattle.xif_cli.proofs.Stopping.{stopped, reported}
 use Rattle.xif_cli.proofs.run.deliver.Goals as goal
+
+pub returns-in-Ok : goal.returns-in-Ok
+returns-in-Ok g c =
+    let job = c.args.job.now in
+    let image = c.args.image.now in
+    let run = run_by job.predictor (setup_of job image) in
+    let p = c.print_answer.ensures in
+    let w = c.in-Ok.ensures in
+    reported c.args.shelf.now c.write_run.new.shelf c.args.out.now c.print_answer.new.out (targets_of job run) (simulated_report run (step_start job image).memory.bytes) (string_bytes c.in-Ok.text) c.print_answer.result
+    w.reports w.uncounted w.whole p.end p.put p.front p.write_fault p.uncounted p.counts
 
 pub returns-in-Err : goal.returns-in-Err
 returns-in-Err g c =
