@@ -6,10 +6,10 @@
 //! contract of a call that does nothing.
 //!
 //! How it is proved: the engine's uses are the latest uses of their keys, as the buses tell them
-//! (`proofs/EngineTold.antt`), and this is kept by each step of a cycle. The core's live entries are
-//! the engine's live uses (`cycle_paired`), so the buses tell the same of them (`proofs/CoreRules`).
-//! What a register transaction shows stays because a register that is there for an instruction in
-//! flight stays there (`proofs/Views.antt`).
+//! (`proofs/EngineTold.antt`), and each step of a cycle keeps this. The live entries of the core
+//! are the live uses of the engine (`cycle_paired`), so the buses tell the same of them
+//! (`proofs/CoreRules.antt`). What a register transaction shows stays because a register that is
+//! there for an instruction in flight stays there (`proofs/Views.antt`).
 #![tactic(auto)]
 
 mod laws;
