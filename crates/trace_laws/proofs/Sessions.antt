@@ -28,7 +28,7 @@ use Rattle.cycle_paired.proofs.Choosing.{sound}
 use Rattle.cycle_paired.proofs.Cycling.{facts_of}
 use Rattle.cycle_paired.proofs.Closing.{cycle-paired, cycle-marked}
 use Rattle.cycle_paired.proofs.Answering.{mark}
-use Rattle.cycle_paired.proofs.Stopping.{TurnedTo, stop-turned}
+use Rattle.cycle_paired.proofs.Stopping.{stop-turned}
 use Rattle.cycle_paired.proofs.Always.{start-paired, drain-paired, resumed-paired, turn-paired}
 use Rattle.trace_laws.specs.Sessions.{Session, Begun, Cycled, Drained, Resumed, Turned, Stopped, HoldsBut, is_stable_halves}
 use Rattle.trace_laws.proofs.EngineTold.{Orderly, EngineTold}

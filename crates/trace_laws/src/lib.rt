@@ -1,9 +1,15 @@
-//! Core and engine keep the rules of the interface, whatever the other side does while it keeps its
-//! own.
+//! Core and engine keep the rules of the interface.
 //!
 //! The rules are those of `xif_session`, which says in `specs/Legal.antt` who owes which of them;
-//! core and engine are those of `cycle_spec`. `specs/Driven.antt` has the engine beside any core.
-//! The laws are those of `src/laws.rt`, each the contract of a call that does nothing.
+//! core and engine are those of `cycle_spec`. `specs/Driven.antt` has the engine beside any core,
+//! and `specs/Sessions.antt` the sessions of both. The laws are those of `src/laws.rt`, each the
+//! contract of a call that does nothing.
+//!
+//! How it is proved: the engine's uses are the latest uses of their keys, as the buses tell them
+//! (`proofs/EngineTold.antt`), and each step of a cycle keeps this. The live entries of the core
+//! are the live uses of the engine (`cycle_paired`), so the buses tell the same of them
+//! (`proofs/CoreRules.antt`). What a register transaction shows stays because a register that is
+//! there for an instruction in flight stays there (`proofs/Views.antt`).
 #![tactic(auto)]
 
 mod laws;
