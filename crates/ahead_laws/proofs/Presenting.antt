@@ -46,15 +46,15 @@ within-flag read flags bit w h =
 abbrev with_dual : Params → ℕ → Params
 with_dual p d = record p { dual_read = d }
 
-abbrev flag_if : Params → ℕ → Half → Bool → ℕ
+abbrev pub flag_if : Params → ℕ → Half → Bool → ℕ
 flag_if p lane half here = if here then flag_of (bit_of p lane half) else 0
 
-abbrev flags_if : Params → (a b c d e f : Bool) → ℕ
+abbrev pub flags_if : Params → (a b c d e f : Bool) → ℕ
 flags_if p a b c d e f =
     union_of
     (flag_if p 0 Low a ∷ flag_if p 0 High b ∷ flag_if p 1 Low c ∷ flag_if p 1 High d ∷ flag_if p 2 Low e ∷ flag_if p 2 High f ∷ [])
 
-abbrev is_set : Params → ℕ → ℕ → Half → Bool
+abbrev pub is_set : Params → ℕ → ℕ → Half → Bool
 is_set p flags lane half = option_map_or (has_flag flags) (bit_of p lane half) false
 
 abbrev implies : Bool → Bool → Bool
@@ -121,10 +121,10 @@ six_parts true true false x y z h = absurd cc
 six_parts true false w x y z h = absurd cc
 six_parts false v w x y z h = absurd cc
 
-abbrev flags_of_halves : Params → (ℕ → Half → Bool) → ℕ
+abbrev pub flags_of_halves : Params → (ℕ → Half → Bool) → ℕ
 flags_of_halves p here = flags_if p (here 0 Low) (here 0 High) (here 1 Low) (here 1 High) (here 2 Low) (here 2 High)
 
-set-here : (p : Params) (here : ℕ → Half → Bool) → IsInRange p → (lane : ℕ) (half : Half) → lane < 3 → is_set p (flags_of_halves p here) lane half ≡ true → here lane half ≡ true
+pub set-here : (p : Params) (here : ℕ → Half → Bool) → IsInRange p → (lane : ℕ) (half : Half) → lane < 3 → is_set p (flags_of_halves p here) lane half ≡ true → here lane half ≡ true
 set-here p here r lane half small h = go lane half small h
   where
     flags : ℕ

@@ -12,7 +12,7 @@ use Rattle.cycle_paired.specs.Paired.{live_entries, live_uses, Match, IsEntry, B
 use Rattle.cycle_paired.specs.Reached.{begins_drain, resumes, Reached, First, Cycled, Drained, Resumed}
 use Rattle.cycle_paired.proofs.Closing.{cycle-paired}
 
-pub start-paired : (hart : ℕ) (s : Setup) → Paired hart (new_machines s)
+abbrev pub start-paired : (hart : ℕ) (s : Setup) → Paired hart (new_machines s)
 start-paired hart s = record {
   answered = λ start. false;
   order = record { pairs = tt; below = tt };
@@ -66,12 +66,12 @@ reached-paired hart first _ p (Resumed m r) = resumed-paired hart m (reached-pai
 -- ---- another hart
 
 -- where nothing is in flight, no use is live
-none-live : (hart : ℕ) (es : List Entry) (us : List Use) → es ≡ [] → Match hart es us → us ≡ []
+pub none-live : (hart : ℕ) (es : List Entry) (us : List Use) → es ≡ [] → Match hart es us → us ≡ []
 none-live hart [] [] h m = refl
 none-live hart [] (u ∷ us) h m = absurd m
 none-live hart (e ∷ es) us h m = cc
 
-pub turn-paired : (hart other : ℕ) (m : Machines) (w : Core) → Paired hart m → m.core.flight ≡ [] → m.engine.issue_turns.waiting ≡ None → w.flight ≡ [] → w.params ≡ m.core.params → Paired other (record m { core = w })
+abbrev pub turn-paired : (hart other : ℕ) (m : Machines) (w : Core) → Paired hart m → m.core.flight ≡ [] → m.engine.issue_turns.waiting ≡ None → w.flight ≡ [] → w.params ≡ m.core.params → Paired other (record m { core = w })
 turn-paired hart other m w p h none k q =
     let nil : live_uses p.answered m.engine.uses ≡ [] = none-live hart (live_entries m.core.flight) (live_uses p.answered m.engine.uses) (ap live_entries h) p.match in
     record {

@@ -16,7 +16,7 @@ use Rattle.cycle_lists.proofs.Order.{core-kept}
 use Rattle.cycle_paired.specs.Paired.{response_of, Offers, Paired}
 use Rattle.cycle_paired.proofs.Choosing.{Sound, sound}
 use Rattle.cycle_paired.proofs.Lasting.{Last, result_entries, result_uses, waiting_after}
-use Rattle.cycle_paired.proofs.Cycling.{facts_of, cpu_for, answers, gives, half_entries, half_uses, half, result_write, whole}
+use Rattle.cycle_paired.proofs.Cycling.{facts_of, cpu_for, answers, gives, half_entries, half_uses, marked, half, result_write, whole}
 use Rattle.cycle_paired.proofs.Same.{settled-is, waits-for}
 
 -- the bus as the core sees it
@@ -64,3 +64,13 @@ after-paired hart answer m ch input k so =
 pub cycle-paired : (hart : ℕ) (m : Machines) (answer : ℕ → ℕ → ℕ) → Paired hart m → (choices m.core).stop ≡ None → Paired hart (cycle m hart answer)
 unfolding cycle
 cycle-paired hart m answer k z = after-paired hart answer m (choices m.core) (input_at m hart) k (sound m.core (facts_of hart m k) z)
+
+-- the starts whose uses had their issue handshake, with that of the cycle
+pub after-marked : (hart : ℕ) (answer : ℕ → ℕ → ℕ) (m : Machines) (ch : Choices) (input : CpuIn) (k : Paired hart m) (so : Sound m.core.params.split m.core.flight ch) (start : ℕ)
+    → (after-paired hart answer m ch input k so).answered start ≡ marked hart m ch k.answered start
+unfolding after-paired
+after-marked hart answer m ch input k so start = (half hart m ch k so).marks start
+
+pub cycle-marked : (hart : ℕ) (m : Machines) (answer : ℕ → ℕ → ℕ) (k : Paired hart m) (z : (choices m.core).stop ≡ None) (start : ℕ) → (cycle-paired hart m answer k z).answered start ≡ marked hart m (choices m.core) k.answered start
+unfolding cycle cycle-paired
+cycle-marked hart m answer k z start = after-marked hart answer m (choices m.core) (input_at m hart) k (sound m.core (facts_of hart m k) z) start

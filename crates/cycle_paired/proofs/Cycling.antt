@@ -103,9 +103,14 @@ half_entries e hart ch es = drain_step ch.drain (cut_step ch.cut (release_step c
 abbrev pub half_uses : Engine → (hart : ℕ) → Choices → List Use
 half_uses e hart ch = decided_for hart ch.kill ch.release (sent_uses hart (gives e hart ch) ch.present (lanes_on (cpu_for hart ch)) (answered_with e hart ch))
 
+-- the starts whose uses had their issue handshake, with that of the cycle
+abbrev pub marked : (hart : ℕ) → Machines → Choices → (ℕ → Bool) → ℕ → Bool
+marked hart m ch before start = cond (is_some ch.offer) (mark (issue_start m.engine (cpu_for hart ch)) (answers m.engine hart ch) before start) (before start)
+
 -- what the commit leaves
-pub record Half (hart : ℕ) (m : Machines) (ch : Choices) : Type 0 where
+pub record Half (hart : ℕ) (m : Machines) (ch : Choices) (before : ℕ → Bool) : Type 0 where
   pub answered : ℕ → Bool
+  pub marks : (start : ℕ) → answered start ≡ marked hart m ch before start
   pub decided : Decided (is_some ch.offer) (issue_start m.engine (cpu_for hart ch)) (answers m.engine hart ch) hart m.core.next_seq (free_id m.core.flight) (m.engine.cycle + 1) answered m.core.flight
       (half_entries m.engine hart ch m.core.flight) m.engine.uses (half_uses m.engine hart ch)
 
@@ -115,7 +120,7 @@ same-response k true true hit es = refl
 same-response k true false hit es = refl
 same-response k false ready hit es = refl
 
-offered-half : (hart : ℕ) (m : Machines) (ch : Choices) (p : Entry) → Paired hart m → Sound m.core.params.split m.core.flight ch → ch.offer ≡ Some p → FirstAt is_open m.core.flight p → Half hart m ch
+offered-half : (hart : ℕ) (m : Machines) (ch : Choices) (p : Entry) (k : Paired hart m) → Sound m.core.params.split m.core.flight ch → ch.offer ≡ Some p → FirstAt is_open m.core.flight p → Half hart m ch k.answered
 offered-half hart m ch p k so h f =
     let w = m.core in
     let e = m.engine in
@@ -140,13 +145,14 @@ offered-half hart m ch p k so h f =
     let d = deciding-offered ch p s t hart n id (e.cycle + 1) g w.flight (sent_entries (gives e hart ch) ch.present (answered_list e hart ch w.flight)) e.uses (sent_uses hart (gives e hart ch) ch.present (lanes_on cpu) (answered_with e hart ch)) (facts_of hart m k) f h so.way st3 in
     record {
       answered = g;
+      marks = λ start. ap (λ b. cond b (g start) (k.answered start)) (sym (ap is_some h));
       decided = subst (λ v. Decided v s t hart n id (e.cycle + 1) g w.flight (half_entries e hart ch w.flight) e.uses (half_uses e hart ch)) (sym (ap is_some h)) d;
     }
   where
     unsplit : (cpu : CpuOut) (e : Engine) → e.params.split ≡ false → register_ready e cpu ≡ issue_ready e cpu
     unsplit cpu e q = ap (λ b. cond b (cpu.register_valid && (is_past e.script.register (turn_of e.register_turns (register_start e cpu)) && may_take (register_use e cpu) cpu.register_rs_valid)) (issue_ready e cpu)) q
 
-quiet-half : (hart : ℕ) (m : Machines) (ch : Choices) → Paired hart m → Sound m.core.params.split m.core.flight ch → ch.offer ≡ None → Half hart m ch
+quiet-half : (hart : ℕ) (m : Machines) (ch : Choices) (k : Paired hart m) → Sound m.core.params.split m.core.flight ch → ch.offer ≡ None → Half hart m ch k.answered
 quiet-half hart m ch k so h =
     let w = m.core in
     let e = m.engine in
@@ -169,6 +175,7 @@ quiet-half hart m ch k so h =
     subst (λ l. Decided false s t hart n id (e.cycle + 1) k.answered w.flight (half_entries e hart ch w.flight) e.uses (decided_for hart ch.kill ch.release (sent_uses hart (gives e hart ch) ch.present (lanes_on cpu) l))) (sym us_is) d1 in
     record {
       answered = k.answered;
+      marks = λ start. ap (λ b. cond b (mark s t k.answered start) (k.answered start)) (sym off);
       decided = subst (λ v. Decided v s t hart n id (e.cycle + 1) k.answered w.flight (half_entries e hart ch w.flight) e.uses (half_uses e hart ch)) (sym off) d2;
     }
   where
@@ -177,10 +184,10 @@ quiet-half hart m ch k so h =
         ap (λ b. cond (b && issue_ready e (cpu_for hart ch)) (map (with_answer (issue_start e (cpu_for hart ch)) (offered_hit e (cpu_for hart ch)) e.accepted) (started_uses e (cpu_for hart ch))) (started_uses e (cpu_for hart ch))) off
         ∙ ap (λ b. start_step (b && not (goes_on e (cpu_for hart ch))) (cpu_for hart ch) e.cycle e.uses) off
 
-pub half : (hart : ℕ) (m : Machines) (ch : Choices) → Paired hart m → Sound m.core.params.split m.core.flight ch → Half hart m ch
+pub half : (hart : ℕ) (m : Machines) (ch : Choices) (k : Paired hart m) → Sound m.core.params.split m.core.flight ch → Half hart m ch k.answered
 half hart m ch k so = go ch.offer refl so.offer
   where
-    go : (o : Option Entry) → ch.offer ≡ o → IfSome o (FirstAt is_open m.core.flight) → Half hart m ch
+    go : (o : Option Entry) → ch.offer ≡ o → IfSome o (FirstAt is_open m.core.flight) → Half hart m ch k.answered
     go None h f = quiet-half hart m ch k so h
     go (Some p) h f = offered-half hart m ch p k so h f
 
@@ -200,7 +207,7 @@ result_write o x = unit_write (rd_field x.word) (writeback_of (use_or o).hit) (u
 abbrev pub ready_at : (hart : ℕ) → Machines → Bool
 ready_at hart m = (input_at m hart).result_ready
 
-pub whole : (hart : ℕ) (m : Machines) (answer : ℕ → ℕ → ℕ) (ready : Bool) (ch : Choices) (k : Paired hart m) (so : Sound m.core.params.split m.core.flight ch) (h : Half hart m ch)
+pub whole : (hart : ℕ) (m : Machines) (answer : ℕ → ℕ → ℕ) (ready : Bool) (ch : Choices) (k : Paired hart m) (so : Sound m.core.params.split m.core.flight ch) (h : Half hart m ch k.answered)
     → Last (is_some ch.offer) (issue_start m.engine (cpu_for hart ch)) (answers m.engine hart ch) hart (m.engine.cycle + 1) h.answered (waiting_after (offered_use m.engine) ready)
     (with_dispatch (dispatch_of answer m.core ch) (retire_step ch.retire (execute_step ch.execute (result_entries (offered_use m.engine) ready (result_write (offered_use m.engine)) (half_entries m.engine hart ch m.core.flight)))))
     (ready_in_harts m.engine.set m.engine.cycle 0 m.engine.units (result_uses (offered_use m.engine) ready (half_uses m.engine hart ch)))

@@ -26,7 +26,7 @@ use Rattle.cycle_paired.specs.Paired.{IsEntry, Behind, Paired}
 use Rattle.cycle_paired.proofs.Facts.{accepted-some}
 use Rattle.cycle_paired.proofs.Choosing.{Unreleased, Facts, Cuts, Presents, Sound}
 use Rattle.cycle_paired.proofs.Cycling.{facts_of, cpu_for}
-use Rattle.cycle_paired.proofs.Closing.{bus_for, both_after, after-paired}
+use Rattle.cycle_paired.proofs.Closing.{bus_for, both_after, after-paired, after-marked}
 use Rattle.cycle_paired.proofs.Always.{turn-paired}
 
 -- ---- nothing is released where the oldest entry stops
@@ -140,3 +140,30 @@ unfolding cycle
 quiet-after hart m answer n =
     let cpu = cpu_for hart (choices m.core) in
     waits-none m.engine.issue_turns (is_some (choices m.core).offer) (issue_ready m.engine cpu) (issue_start m.engine cpu) (ap is_some (no-offer m.core n))
+
+-- ---- and which starts had their issue handshake stays
+
+pub record TurnedTo (other : ℕ) (m : Machines) (before : ℕ → Bool) : Type 0 where
+  pub paired : Paired other m
+  pub marks : (start : ℕ) → paired.answered start ≡ before start
+
+turned-to : (hart other : ℕ) (m : Machines) (ch : Choices) (cause : StopCause) (input : CpuIn) (w : Core) → ch ≡ choices_stopping m.core cause → stop_at m.core.flight ≡ Some cause → (k : Paired hart m) → w.flight ≡ [] → w.params ≡ m.core.params
+    → TurnedTo other (record { core = w; engine = engine_clock m.engine (cpu_for hart ch) (engine_drive m.engine (cpu_for hart ch)) input }) k.answered
+turned-to hart other m ch cause input w q h k e p =
+    let d = drops_all m.core cause in
+    let n = both_after hart (λ pc word. 0) m d input in
+    let so = drops-sound m.core cause (facts_of hart m k) h in
+    let done = after-paired hart (λ pc word. 0) m d input k so in
+    let empty : n.core.flight ≡ [] = result-none (bus_for hart m.engine d input) in
+    let turn : TurnedTo other (record n { core = w }) k.answered = record {
+      paired = turn-paired hart other n w done empty refl e p;
+      marks = λ start. after-marked hart (λ pc word. 0) m d input k so start;
+    } in
+    subst (λ c. TurnedTo other (record { core = w; engine = engine_clock m.engine (cpu_for hart c) (engine_drive m.engine (cpu_for hart c)) input }) k.answered) (sym q) turn
+
+pub stop-turned : (hart other : ℕ) (m : Machines) (answer : ℕ → ℕ → ℕ) (cause : StopCause) (w : Core) (k : Paired hart m) → (choices m.core).stop ≡ Some cause → w.flight ≡ [] → w.params ≡ m.core.params
+    → TurnedTo other (record { core = w; engine = (cycle m hart answer).engine }) k.answered
+unfolding cycle
+stop-turned hart other m answer cause w k h e p =
+    let s = stops-by m.core cause h in
+    turned-to hart other m (choices m.core) cause (input_at m hart) w s.choices_are s.stops k e p

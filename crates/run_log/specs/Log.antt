@@ -69,7 +69,8 @@ line_words (line.Write register value) =
 line_words (line.Store address width value) =
     codes "store " ++ hex_word address ++ codes " " ++ decimal width ++ codes " " ++ hex_word value
 line_words (line.Cut keep target) = codes "cut " ++ decimal keep ++ codes " " ++ hex_word target
-line_words (line.Dispatch pc word) = codes "dispatch " ++ hex_word pc ++ codes " " ++ word_words word
+line_words (line.Dispatch pc word) =
+    codes "dispatch " ++ hex_word pc ++ codes " " ++ word_words word
 line_words (line.Drain keep) = codes "drain " ++ decimal keep
 line_words (line.Stop cause pc) = codes "stop " ++ cause_word cause ++ codes " " ++ hex_word pc
 

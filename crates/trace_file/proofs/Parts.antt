@@ -4,13 +4,14 @@ use Rattle.std.specs.Option.{option_map}
 use Rattle.std.specs.FinMap as map
 use Rattle.std.proofs.lemmas.Grind.{common_steps}
 use Rattle.xif_base.specs.Files.{Files}
+use Rattle.xif_base.specs.declared.params.Params.{Params}
 use Rattle.xif_base.specs.declared.outside.WriteFail.TheVariants.{NoMemory}
 use Rattle.xif_signals.specs.declared.bus.Bus.{Bus}
 use Rattle.vcd_text.specs.Writing.{Progress, Wrote}
 use Rattle.vcd_text.specs.Written.{cycles_text, vcd_text_of}
 use Rattle.xif_targets.specs.Writing.{IsWritten, IsWrittenInPart, IsGrowing, IsCountedFail}
 use Rattle.xif_targets.proofs.Growing.{growing-part}
-use Rattle.trace_file.specs.Tracing.{Tracing, IsTracing}
+use Rattle.trace_file.specs.Tracing.{Tracing, IsTracing, trace_text}
 
 pub part-longer : (before now : Option Files) (name bytes more : List ℕ) → IsWrittenInPart before now name bytes → IsWrittenInPart before now name (bytes ++ more)
 part-longer before now name bytes more part =
@@ -26,16 +27,27 @@ part-longer before now name bytes more part =
     take-before xs ys n h = grind (arith, common_steps)
 
 -- a part of the text so far is one of the whole, whatever buses follow
-pub part-whole : (before now : Option Files) (name : List ℕ) (w : Progress) (buses more : List Bus) (text : List ℕ) → Wrote w buses text → IsWrittenInPart before now name text → IsWrittenInPart before now name (vcd_text_of w.params (buses ++ more))
+pub part-whole : (before now : Option Files) (name : List ℕ) (w : Progress) (buses more : List Bus) (text : List ℕ) → Wrote w buses text → IsWrittenInPart before now name text → IsWrittenInPart before now name (trace_text w.params (buses ++ more))
+unfolding trace_text
 part-whole before now name w buses more text wrote part = subst (IsWrittenInPart before now name) (wrote.joined more) (part-longer before now name text (cycles_text w.params w.cycles w.last more) part)
 
 -- likewise where nothing more was sent
-pub tracing-part : (before now : Option Files) (name : List ℕ) (t : Tracing) (buses more : List Bus) → IsTracing before now name t buses → IsWrittenInPart before now name (vcd_text_of t.writer.params (buses ++ more))
+pub tracing-part : (before now : Option Files) (name : List ℕ) (t : Tracing) (buses more : List Bus) → IsTracing before now name t buses → IsWrittenInPart before now name (trace_text t.writer.params (buses ++ more))
+unfolding trace_text
 tracing-part before now name t buses more tracing =
     subst (IsWrittenInPart before now name) (tracing.wrote.joined more) (growing-part before now name t.pending tracing.text (cycles_text t.writer.params t.writer.cycles t.writer.last more) tracing.is_growing)
 
-pub one-more : (buses more : List Bus) (bus : Bus) → (buses ++ bus ∷ []) ++ more ≡ buses ++ bus ∷ more
-one-more buses more bus = append_assoc buses (bus ∷ []) more
+-- likewise where a cycle was written
+pub cycle-part : (before now : Option Files) (name : List ℕ) (w : Progress) (p : Params) (buses more : List Bus) (bus : Bus) (text : List ℕ) → w.params ≡ p → Wrote w (buses ++ bus ∷ []) text → IsWrittenInPart before now name text → IsWrittenInPart before now name (trace_text p (buses ++ bus ∷ more))
+cycle-part before now name w p buses more bus text same wrote part =
+    subst (λ bs. IsWrittenInPart before now name (trace_text p bs)) (append_assoc buses (bus ∷ []) more)
+    (subst (λ q. IsWrittenInPart before now name (trace_text q ((buses ++ bus ∷ []) ++ more))) same
+    (part-whole before now name w (buses ++ bus ∷ []) more text wrote part))
+
+-- where the end is written, the text is whole
+pub end-whole : (w : Progress) (buses : List Bus) (text piece : List ℕ) → text ++ piece ≡ vcd_text_of w.params buses → text ++ piece ≡ trace_text w.params buses
+unfolding trace_text
+end-whole w buses text piece e = e
 
 -- out of memory before any call of the shelf
 pub no-memory : {S : Type 0} {fetch_faults write_faults : S → ℕ} {faultless : S → Type 0} (s : S) → IsCountedFail fetch_faults write_faults faultless s s NoMemory

@@ -4,9 +4,8 @@ ghost use Rattle.xif_base.specs.Files.{Files};
 ghost use Rattle.xif_base.specs.Params.{IsInRange};
 ghost use Rattle.xif_signals.specs.declared.bus.Bus.{Bus};
 ghost use Rattle.xif_signals.specs.Bus.{FitsWidths};
-ghost use Rattle.vcd_text.specs.Written.{vcd_text_of};
 ghost use Rattle.xif_targets.specs.Writing.{IsWritten, IsWrittenInPart, IsUncounted, IsCountedFail};
-ghost use Rattle.trace_file.specs.Tracing.{IsTracing};
+ghost use Rattle.trace_file.specs.Tracing.{IsTracing, trace_text};
 
 use std::alloc::Global;
 use std::marker::Model;
@@ -48,7 +47,7 @@ impl TraceFile {
         ensures part { OnErr result ((buses : List Bus) →
             (S.files shelf.new ≡ S.files shelf.old)
             ⊎ IsWrittenInPart (S.files shelf.old) (S.files shelf.new) name.now
-            (vcd_text_of params.now buses)) }
+            (trace_text params.now buses)) }
         ensures counted { IfErr result (IsCountedFail S.fetch_faults S.write_faults S.faultless
             shelf.old shelf.new) }
     {
@@ -79,7 +78,7 @@ impl TraceFile {
         ensures part { OnErr result ((before : Option Files) → (buses more : List Bus) →
             IsTracing before (S.files shelf.old) name.now self.old buses
             → IsWrittenInPart before (S.files shelf.new) name.now
-            (vcd_text_of (self.old).writer.params (buses ++ bus.now ∷ more))) }
+            (trace_text (self.old).writer.params (buses ++ bus.now ∷ more))) }
         ensures counted { IfErr result (λ fail. (before : Option Files) → (buses : List Bus) →
             IsTracing before (S.files shelf.old) name.now self.old buses
             → IsCountedFail S.fetch_faults S.write_faults S.faultless shelf.old shelf.new fail) }
@@ -89,17 +88,22 @@ impl TraceFile {
     }
 
     /// Ends the text behind the cycles so far.
-    pub fn end<S: Shelf>(&mut self, alloc: Global, shelf: &mut S, name: &str) -> Result<(), WriteFail>
+    pub fn end<S: Shelf>(
+        &mut self,
+        alloc: Global,
+        shelf: &mut S,
+        name: &str,
+    ) -> Result<(), WriteFail>
         ensures whole { OnOk result ((before : Option Files) → (buses : List Bus) →
             IsTracing before (S.files shelf.old) name.now self.old buses
             → IsWritten before (S.files shelf.new) name.now
-            (vcd_text_of (self.old).writer.params buses)) }
+            (trace_text (self.old).writer.params buses)) }
         ensures uncounted { OnOk result (IsUncounted S.fetch_faults S.write_faults S.faultless
             shelf.old shelf.new) }
         ensures part { OnErr result ((before : Option Files) → (buses : List Bus) →
             IsTracing before (S.files shelf.old) name.now self.old buses
             → IsWrittenInPart before (S.files shelf.new) name.now
-            (vcd_text_of (self.old).writer.params buses)) }
+            (trace_text (self.old).writer.params buses)) }
         ensures counted { IfErr result (λ fail. (before : Option Files) → (buses : List Bus) →
             IsTracing before (S.files shelf.old) name.now self.old buses
             → IsCountedFail S.fetch_faults S.write_faults S.faultless shelf.old shelf.new fail) }

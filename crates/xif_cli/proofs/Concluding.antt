@@ -52,7 +52,7 @@ end_is_no_refusal : (end : End) → IsRefusal (end_status end) → ⊥
 end_is_no_refusal end.Done r = r
 end_is_no_refusal end.Illegal r = r
 
-end_is_no_write_fail : (end : End) → IsWriteFail (end_status end) → ⊥
+pub end_is_no_write_fail : (end : End) → IsWriteFail (end_status end) → ⊥
 end_is_no_write_fail end.Done r = elim r [ inl fault ↦ (let e = fault.1 in cc) | inr none ↦ cc ]
 end_is_no_write_fail end.Illegal r = elim r [ inl fault ↦ (let e = fault.1 in cc) | inr none ↦ cc ]
 

@@ -7,3 +7,5 @@ pub mod Judging
 pub mod Jobs
 pub mod Judged
 pub mod Concluding
+pub mod Stopping
+pub mod Running

@@ -14,12 +14,16 @@ range_with_len-suc first (suc n) =
     ∙ ap (λ k. first ∷ (range_with_len (first + 1) n ++ k ∷ [])) same
 
 -- what is made of n + 1 numbers in a row
+pub flat_map-from : (f : ℕ → List ℕ) (first n : ℕ) → flat_map f (range_with_len first (n + 1)) ≡ flat_map f (range_with_len first n) ++ f (first + n)
+flat_map-from f first n =
+    let last : f (first + n) ++ [] ≡ f (first + n) = append-nil (f (first + n)) in
+    ap (λ k. flat_map f (range_with_len first k)) (add-one n)
+    ∙ ap (flat_map f) (range_with_len-suc first n)
+    ∙ flat_map-append f (range_with_len first n) ((first + n) ∷ [])
+    ∙ ap (λ xs. flat_map f (range_with_len first n) ++ xs) last
+
+-- those from 0 on
 pub flat_map-more : (f : ℕ → List ℕ) (n : ℕ) → flat_map f (range_with_len 0 (n + 1)) ≡ flat_map f (range_with_len 0 n) ++ f n
 flat_map-more f n =
     let same : 0 + n ≡ n = omega arith in
-    let last : f n ++ [] ≡ f n = append-nil (f n) in
-    ap (λ k. flat_map f (range_with_len 0 k)) (add-one n)
-    ∙ ap (flat_map f) (range_with_len-suc 0 n)
-    ∙ flat_map-append f (range_with_len 0 n) ((0 + n) ∷ [])
-    ∙ ap (λ k. flat_map f (range_with_len 0 n) ++ (f k ++ [])) same
-    ∙ ap (λ xs. flat_map f (range_with_len 0 n) ++ xs) last
+    flat_map-from f 0 n ∙ ap (λ k. flat_map f (range_with_len 0 n) ++ f k) same

@@ -6,8 +6,10 @@ use Rattle.xif_base.specs.Faults.{CountsFaults, OnlyReads}
 use Rattle.xif_base.specs.Files.{Files}
 use Rattle.xif_base.specs.Output.{grown}
 use Rattle.xif_base.specs.declared.outside.Which.{Which}
-use Rattle.xif_base.specs.declared.outside.Which.TheVariants.{Output}
-use Rattle.xif_targets.specs.Targets.{written}
+use Rattle.xif_base.specs.declared.outside.Which.TheVariants.{Trace, Log, Output}
+use Rattle.xif_base.specs.declared.outside.WriteFail.{WriteFail}
+use Rattle.xif_base.specs.declared.outside.WriteFail.TheVariants as fail
+use Rattle.xif_targets.specs.Targets.{Target, written, StopsAtFile}
 use Rattle.xif_cli.specs.declared.answer.End.{End}
 use Rattle.xif_cli.specs.declared.status.Status.{Status}
 use Rattle.xif_cli.specs.declared.status.Status.TheVariants.{ReadFault, WriteFault, NoMemory}
@@ -18,6 +20,19 @@ use Rattle.xif_cli.specs.Outcome.{Lookup, Answer, end_status, found, without}
 -- writing failed
 abbrev pub IsWriteFail : Status → Type 0
 IsWriteFail status = ((w : Which) × (status ≡ WriteFault w)) ⊎ (status ≡ NoMemory)
+
+-- the status where writing a target failed so
+abbrev pub IsFailStatus : Which → WriteFail → Status → Type 0
+IsFailStatus w fail.Failed status = status ≡ WriteFault w
+IsFailStatus w fail.NoMemory status = status ≡ NoMemory
+
+-- The writing of files stopped in this one. Files that aren't reported stay so.
+pub record StopsWriting (w : Which) (targets : List Target) (before after : Option Files)
+    : Type 0 where
+  pub is_file : (w ≡ Trace) ⊎ (w ≡ Log)
+  pub reported : (m : Files) → before ≡ Some m →
+      (left : Files) × ((after ≡ Some left) × StopsAtFile w targets m left)
+  pub unreported : before ≡ None → after ≡ None
 
 -- The files of an answer are written and its text is printed, in order, and it ends with this
 -- status. The first seven are the meanings of shelf and output.

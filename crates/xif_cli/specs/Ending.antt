@@ -31,7 +31,7 @@ Means words find outcome =
 abbrev pub reads : Form → Which → Bool
 reads (form.Raw image count) w = is_same w which.Image
 reads (form.Step job) w = is_same w which.Job || is_same w which.Image
-reads (form.Run job) w = false
+reads (form.Run job) w = is_same w which.Job || is_same w which.Image
 reads (form.Judge job waveform) w = is_same w which.Job || is_same w which.Waveform
 reads (form.Gen seed count) w = false
 reads (form.Harts job) w = false
@@ -41,9 +41,9 @@ reads (form.Replay job waveform) w = false
 abbrev pub is_built : Form → Bool
 is_built (form.Raw image count) = true
 is_built (form.Step job) = true
-is_built (form.Run job) = false
+is_built (form.Run job) = true
 is_built (form.Judge job waveform) = true
-is_built (form.Gen seed count) = false
+is_built (form.Gen seed count) = true
 is_built (form.Harts job) = false
 is_built (form.Replay job waveform) = false
 

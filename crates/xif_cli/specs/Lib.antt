@@ -4,6 +4,8 @@ pub mod Status
 pub mod InOrder
 pub mod Verdict
 pub mod Limits
+pub mod Simulated
+pub mod Summary
 pub mod Outcome
 pub mod Judged
 pub mod Ending

@@ -23,8 +23,10 @@ use Rattle.xif_cli.specs.declared.answer.End.{End}
 use Rattle.xif_cli.specs.declared.answer.End.TheVariants as end
 use Rattle.xif_cli.specs.declared.status.Status.{Status}
 use Rattle.xif_cli.specs.declared.status.Status.TheVariants as status
-use Rattle.xif_cli.specs.InOrder.{raw_report, step_report}
+use Rattle.xif_cli.specs.InOrder.{raw_report, step_start, step_report}
 use Rattle.xif_cli.specs.Limits.{longest_raw, longest_job, longest_image, longest_waveform}
+use Rattle.xif_cli.specs.Simulated.{setup_of, run_by, targets_of, simulated_report}
+use Rattle.xif_cli.specs.Summary.{generated_summary}
 use Rattle.xif_cli.specs.Verdict.{judged_end, judged_text}
 use Rattle.xif_cli.specs.Words.{Form}
 use Rattle.xif_cli.specs.Words as form
@@ -124,11 +126,42 @@ raw_outcome image count find = do
   bytes ← file_in which.Image longest_raw (find which.Image image)
   Ok (prints end.Done (raw_report bytes count))
 
+-- the report of a job
+abbrev pub report_in : Job → Lookup → Result Answer Status
+report_in job find = do
+  image ← image_of job find
+  Ok (prints end.Done (step_report job image))
+
 abbrev pub step_outcome : List ℕ → Lookup → Result Answer Status
 step_outcome name find = do
   job ← job_in true name find
+  report_in job find
+
+-- a job and its image
+abbrev pub with_image : Job → Lookup → Result (Job × Placement) Status
+with_image job find = do
   image ← image_of job find
-  Ok (prints end.Done (step_report job image))
+  Ok (job, image)
+
+abbrev pub loaded : List ℕ → Lookup → Result (Job × Placement) Status
+loaded name find = do
+  job ← job_in true name find
+  with_image job find
+
+-- the files and the report of the run of a job with its image
+abbrev pub run_answer : Job → Placement → Answer
+run_answer job image =
+    let run = run_by job.predictor (setup_of job image) in
+    record {
+      end = end.Done;
+      targets = targets_of job run;
+      printed = simulated_report run (step_start job image).memory.bytes;
+    }
+
+abbrev pub run_outcome : List ℕ → Lookup → Result Answer Status
+run_outcome name find = do
+  l ← loaded name find
+  Ok (run_answer l.0 l.1)
 
 -- the verdict on a waveform by a job
 abbrev pub verdict_in : Job → List ℕ → Lookup → Result Answer Status
@@ -146,8 +179,9 @@ judge_outcome name waveform find = do
 abbrev pub command_outcome : Form → Lookup → Result Answer Status
 command_outcome (form.Raw image count) find = raw_outcome image count find
 command_outcome (form.Step job) find = step_outcome job find
-command_outcome (form.Run job) find = Err status.Unbuilt
+command_outcome (form.Run job) find = run_outcome job find
 command_outcome (form.Judge job waveform) find = judge_outcome job waveform find
-command_outcome (form.Gen seed count) find = Err status.Unbuilt
+command_outcome (form.Gen seed count) find =
+    Ok (prints end.Done (generated_summary seed count))
 command_outcome (form.Harts job) find = Err status.Unbuilt
 command_outcome (form.Replay job waveform) find = Err status.Unbuilt

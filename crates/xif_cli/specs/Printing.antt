@@ -1,5 +1,5 @@
--- How printing can fail. Internal: what the contracts of private functions cite; nothing here has to
--- be believed.
+-- How printing can fail. Internal: what the contracts of private functions cite; nothing here has
+-- to be believed.
 use Rattle.std.specs.Prelude.{◌≡◌, ◌⊎◌}
 use Rattle.xif_base.specs.declared.outside.Which.TheVariants as which
 use Rattle.xif_cli.specs.declared.status.Status.{Status}

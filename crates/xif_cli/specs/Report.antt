@@ -1,10 +1,10 @@
--- What the in-order commands print.
+-- What is printed of a run.
 use Rattle.std.specs.Prelude.{ℕ, List, [], ◌++◌, ◌*◌, ◌+◌, ◌/◌, ◌==◌, Option, Some, None, length, take, drop, if◌then◌else◌}
 use Rattle.std.specs.Fmt.{decimal}
 use Rattle.std.specs.List.{enumerate_from, range_with_len, flat_map}
 use Rattle.std.specs.Int.{w32, from_le_bytes}
 use Rattle.inorder_machine.specs.declared.stop.StopCause.{StopCause}
-use Rattle.inorder_machine.specs.Machine.{State}
+use Rattle.inorder_machine.specs.Machine.{State, register_in}
 use Rattle.xif_image.specs.Region.{Region}
 use Rattle.run_log.specs.Words.{hex_word, hex_double, cause_word}
 use lib.Chars.{codes}
@@ -26,10 +26,10 @@ register_line number value =
     if value == 0 then []
     else codes "x" ++ decimal number ++ codes "=" ++ hex_word value ++ codes "\n"
 
--- the lines of the registers, x0 apart; the list has the values of all, x0 first
+-- the lines of the registers x1 to x31
 abbrev pub register_lines : List ℕ → List ℕ
 register_lines registers =
-    flat_map (λ r. register_line r.0 r.1) (enumerate_from 1 (drop 1 registers))
+    flat_map (λ i. register_line i (register_in registers i)) (range_with_len 1 31)
 
 -- the line of an accumulator of a unit; one that is 0 has none
 abbrev pub accumulator_line : ℕ → ℕ → ℕ → List ℕ

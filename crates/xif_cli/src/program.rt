@@ -8,12 +8,14 @@ ghost use Rattle.xif_cli.specs.Ending.{IsNoCommand, Means, is_built, has_targets
 ghost use Rattle.xif_cli.specs.Outcome.{Answer, end_status, found, without, command_outcome};
 ghost use Rattle.xif_cli.specs.declared.answer.End.{End};
 ghost use Rattle.xif_cli.specs.Reading.{Ends, seen, can_refuse};
-ghost use Rattle.xif_cli.specs.Words.{Form, IsCommand, form_of};
+ghost use Rattle.xif_cli.specs.Words.{Form, IsInRange, IsCommand, form_of};
 
 use crate::answer::Answer;
+use crate::generate::gen_answer;
 use crate::judge::judge_answer;
 use crate::print::print_answer;
 use crate::raw::raw_answer;
+use crate::run::run_job;
 use crate::status::Status;
 use crate::step::step_answer;
 use crate::words::{Command, parse_command};
@@ -113,6 +115,7 @@ fn perform<S: Shelf, O: Out>(
     shelf: &mut S,
     out: &mut O,
 ) -> Status
+    requires { IsInRange (form_of command.entry) }
     ensures concludes { Concludes S.files S.fetch_faults S.write_faults S.faultless
         O.put_bytes O.faults O.faultless shelf.old shelf.new out.old out.new
         (command_outcome (form_of command.entry)) result }
@@ -122,14 +125,40 @@ fn perform<S: Shelf, O: Out>(
     ensures only_reads { has_targets (form_of command.entry) ≡ false →
         OnlyReads S.files S.fetch_faults S.write_faults S.faultless shelf.old shelf.new }
 {
+    match command {
+        Command::Run { job } => run_job(alloc, job, shelf, out),
+        _ => print_command(alloc, command, shelf, out),
+    }
+}
+
+// Does what a command asks for that writes no files.
+fn print_command<S: Shelf, O: Out>(
+    alloc: Global,
+    command: Command<'_>,
+    shelf: &mut S,
+    out: &mut O,
+) -> Status
+    requires in_range { IsInRange (form_of command.entry) }
+    requires no_targets { has_targets (form_of command.entry) ≡ false }
+    ensures concludes { Concludes S.files S.fetch_faults S.write_faults S.faultless
+        O.put_bytes O.faults O.faultless shelf.old shelf.new out.old out.new
+        (command_outcome (form_of command.entry)) result }
+    ensures can_end { IsTrue (can_end (form_of command.entry) result) }
+    ensures unbuilt { is_built (form_of command.entry) ≡ false →
+        (result ≡ Status.Unbuilt) × (shelf.new ≡ shelf.old) }
+    ensures only_reads {
+        OnlyReads S.files S.fetch_faults S.write_faults S.faultless shelf.old shelf.new }
+{
     match answer_of(alloc, command, shelf) {
         Ok(answer) => print_answer(&answer, out),
         Err(status) => status,
     }
 }
 
-// What a command returns over the files.
+// What a command returns over the files that writes none.
 fn answer_of<S: Shelf>(alloc: Global, command: Command<'_>, shelf: &mut S) -> Result<Answer, Status>
+    requires in_range { IsInRange (form_of command.entry) }
+    requires no_targets { has_targets (form_of command.entry) ≡ false }
     ensures ends { Ends S.files S.fetch_faults S.write_faults S.faultless shelf.old shelf.new
         (command_outcome (form_of command.entry)) (seen (λ answer. answer) result) }
     ensures ok { IfOk result (λ answer. IsTrue (is_built (form_of command.entry))
@@ -143,9 +172,8 @@ fn answer_of<S: Shelf>(alloc: Global, command: Command<'_>, shelf: &mut S) -> Re
         Command::Raw { image, count } => raw_answer(alloc, image, count, shelf),
         Command::Step { job } => step_answer(alloc, job, shelf),
         Command::Judge { job, waveform } => judge_answer(alloc, job, waveform, shelf),
-        Command::Run { .. }
-        | Command::Gen { .. }
-        | Command::Harts { .. }
-        | Command::Replay { .. } => Err(Status::Unbuilt),
+        Command::Gen { seed, count } => gen_answer(alloc, seed, count),
+        Command::Run { .. } => unreachable!(),
+        Command::Harts { .. } | Command::Replay { .. } => Err(Status::Unbuilt),
     }
 }

@@ -2,7 +2,7 @@
 ghost use Rattle.std.specs.Prelude.{◌≡◌, ◌≤◌, ◌<◌, ◌⊎◌, ℕ, List, length, vec_len, IsTrue, IfErr, IfOk, OnOk};
 ghost use Rattle.xif_base.specs.Params.{IsInRange};
 ghost use Rattle.coproc_config.specs.Check.{IsLawful};
-ghost use Rattle.xif_job.specs.Ranges.{IsLawfulMemory};
+ghost use Rattle.xif_job.specs.Ranges.{IsLawfulMemory, IsLawfulJob};
 ghost use Rattle.xif_cli.specs.Limits.{longest_image};
 ghost use Rattle.xif_cli.specs.Outcome.{file_in, job_in, image_of, image_by};
 ghost use Rattle.xif_cli.specs.Reading.{Ends, seen, can_refuse_file, can_refuse_job, can_refuse_image};
@@ -81,6 +81,7 @@ pub(crate) fn read_job<S: Shelf>(
     ensures in_range { IfOk result (λ job. IsInRange job.params) }
     ensures lawful { IfOk result (λ job. IsLawful job.set) }
     ensures memory { IfOk result (λ job. IsLawfulMemory job.base job.size) }
+    ensures all_lawful { IfOk result IsLawfulJob }
 {
     let bytes = read_file(alloc, Which::Job, name, JOB_LIMIT, shelf)?;
     Ok(Job::read(alloc, &bytes, needs_image)?)

@@ -1,14 +1,22 @@
-//! What the in-order commands print.
+//! What is printed of a run.
 ghost use Rattle.std.specs.Prelude.{◌≡◌, ◌<◌, ◌*◌, ◌+◌, ◌^◌, OnOk, IfOk, slice_index};
 ghost use Rattle.std.specs.String.{string_bytes};
 ghost use Rattle.run_log.specs.Growth.{Appends};
+ghost use Rattle.cycle_spec.specs.Run.{Run};
+ghost use Rattle.traced_run.specs.Left.{IsAtEnd, counts_of};
+ghost use Rattle.xif_cli.specs.Simulated.{stop_of, simulated_report};
 ghost use Rattle.xif_cli.specs.Report.{end_word, outcome_text, register_line, register_lines, accumulator_line, unit_lines, accumulator_lines, memory_word, memory_line, memory_lines, report_of};
 
 use coproc_config::UnitState;
+use cycle_spec::End;
+use flight_table::Registers;
 use inorder_machine::{Machine, StopCause};
 use run_log::{HexDouble, HexWord, cause_word};
 use std::alloc::{AllocError, Global};
+use traced_run::Counts;
+use xif_base::NoMemory;
 use xif_image::Memory;
+use xif_sim::Simulation;
 
 /// What is printed of a run that ended by `stop`, or else by its budget, after `retired`
 /// retirements: `machine` is in its last state, and `before` has the bytes of its memory at the
@@ -32,6 +40,38 @@ pub(crate) fn report(
     Ok(text)
 }
 
+/// What is printed of a simulated run that is over; `before` has the bytes of its memory at the
+/// start.
+#[tactic(auto, unfolding(crate::specs::Simulated::simulated_report))]
+pub(crate) fn simulated_report(
+    alloc: Global,
+    simulation: &Simulation,
+    counts: Counts,
+    before: &[u8],
+) -> Result<String, NoMemory>
+    ensures { IfOk result (λ text. (run : Run) →
+        IsAtEnd simulation.now run → counts ≡ counts_of run →
+        string_bytes text ≡ simulated_report run before.now) }
+{
+    let mut text = String::new(alloc);
+    push_outcome(&mut text, stop_of(simulation.end()), simulation.pc(), counts.retired)?;
+    writeln!(text, " cycles={}", counts.cycles)?;
+    push_core_registers(&mut text, simulation.registers())?;
+    push_accumulators(&mut text, simulation.states())?;
+    push_memory(&mut text, before, simulation.memory())?;
+    Ok(text)
+}
+
+/// What stopped a simulated run, if something did.
+pub(crate) fn stop_of(end: End) -> Option<StopCause>
+    ensures { result ≡ stop_of end }
+{
+    match end {
+        End::Stopped(cause) => Some(cause),
+        End::Budget => None,
+    }
+}
+
 // Appends how the run ended, without the end of the line.
 fn push_outcome(
     text: &mut String,
@@ -45,8 +85,8 @@ fn push_outcome(
     write!(text, "end={word} pc={} retired={retired}", HexWord(pc))
 }
 
-// The word for an end.
-fn end_word(stop: Option<StopCause>) -> &'static str
+/// The word for an end.
+pub(crate) fn end_word(stop: Option<StopCause>) -> &'static str
     ensures { result.now ≡ end_word stop }
 {
     match stop {
@@ -55,14 +95,22 @@ fn end_word(stop: Option<StopCause>) -> &'static str
     }
 }
 
-// Appends the lines of the registers.
+// Appends the lines of the registers of the in-order machine.
 fn push_registers(text: &mut String, registers: &[u32]) -> Result<(), AllocError>
     ensures { OnOk result (Appends text.old text.new (register_lines registers.now)) }
 {
-    if let [_zero, others @ ..] = registers {
-        for (index, value) in others.iter().enumerate() {
-            push_register(text, index + 1, *value)?;
-        }
+    for number in 1..32 {
+        push_register(text, number, registers.get(number).copied().unwrap_or(0))?;
+    }
+    Ok(())
+}
+
+// Appends the lines of the registers of the core.
+fn push_core_registers(text: &mut String, registers: &Registers) -> Result<(), AllocError>
+    ensures { OnOk result (Appends text.old text.new (register_lines registers.now)) }
+{
+    for number in 1..32 {
+        push_register(text, number, registers.get(number as u8))?;
     }
     Ok(())
 }

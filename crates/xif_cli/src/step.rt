@@ -5,7 +5,7 @@ ghost use Rattle.xif_base.specs.Params.{IsInRange};
 ghost use Rattle.coproc_config.specs.Check.{IsLawful};
 ghost use Rattle.xif_job.specs.Ranges.{IsLawfulMemory};
 ghost use Rattle.xif_cli.specs.InOrder.{step_report};
-ghost use Rattle.xif_cli.specs.Outcome.{step_outcome};
+ghost use Rattle.xif_cli.specs.Outcome.{step_outcome, report_in};
 ghost use Rattle.xif_cli.specs.Reading.{Ends, seen, can_refuse_job, can_refuse_image};
 
 use crate::answer::{Answer, End};
@@ -31,8 +31,21 @@ pub(crate) fn step_answer<S: Shelf>(
     ensures done { IfOk result (λ answer. answer.end ≡ End.Done) }
 {
     let job = read_job(alloc, name, true, shelf)?;
-    let image = read_image(alloc, &job, shelf)?;
-    let text = report_of_job(alloc, &job, &image)?;
+    step_job(alloc, &job, shelf)
+}
+
+// The report of a job.
+fn step_job<S: Shelf>(alloc: Global, job: &Job, shelf: &mut S) -> Result<Answer, Status>
+    requires memory { IsLawfulMemory job.now.base job.now.size }
+    requires in_range { IsInRange job.now.params }
+    requires lawful { IsLawful job.now.set }
+    ensures ends { Ends S.files S.fetch_faults S.write_faults S.faultless shelf.old shelf.new
+        (report_in job.now) (seen (λ answer. answer) result) }
+    ensures refusal { IfErr result (λ status. IsTrue (can_refuse_image status)) }
+    ensures done { IfOk result (λ answer. answer.end ≡ End.Done) }
+{
+    let image = read_image(alloc, job, shelf)?;
+    let text = report_of_job(alloc, job, &image)?;
     Ok(Answer {
         end: End::Done,
         text,

@@ -53,6 +53,13 @@ impl Addresses {
         &self.items[i]
     }
 
+    /// The addresses, in their order.
+    pub fn as_slice(&self) -> &[u32]
+        ensures { result.now ≡ self.now }
+    {
+        self.items.as_slice()
+    }
+
     pub(crate) fn of(items: Vec<u32>) -> Addresses
         ensures { result ≡ items.items }
     {

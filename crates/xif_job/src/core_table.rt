@@ -3,7 +3,7 @@ ghost use Rattle.std.specs.Prelude.{◌≡◌, ◌≤◌, ◌^◌, IfOk, min};
 ghost use Rattle.toml.specs.View.{table_view};
 ghost use Rattle.xif_job.specs.FieldTable.{core_of};
 ghost use Rattle.xif_job.specs.Outcome.{ReadsAs};
-ghost use Rattle.xif_job.specs.Ranges.{IsLawfulWindow, IsLawfulBudget};
+ghost use Rattle.xif_job.specs.Ranges.{IsLawfulWindow, IsLawfulBudget, IsLawfulKind};
 
 use crate::predictor::{Kind, read_predictor};
 use crate::readers::{Absent, Range, find, number_u8, number_u32, table};
@@ -30,6 +30,7 @@ pub(crate) fn read_core(alloc: Global, top: &Table, id_width: u8) -> Result<Core
     ensures value { ReadsAs (λ c. c) result (core_of id_width (table_view top.now)) }
     ensures window { IfOk result (λ c. IsLawfulWindow id_width c.window) }
     ensures budget { IfOk result (λ c. IsLawfulBudget c.budget) }
+    ensures predictor { IfOk result (λ c. IsLawfulKind c.predictor) }
 {
     let table = table(Field::CoreWindow, &NAMES, find(Some(top), "core"))?;
     let windows = Range {

@@ -1,7 +1,8 @@
 //! The predictor of a job: its kind, and the bits or addresses that it has.
-ghost use Rattle.std.specs.Prelude.{◌≡◌};
+ghost use Rattle.std.specs.Prelude.{◌≡◌, ◌≤◌, IfOk, length};
 ghost use Rattle.xif_job.specs.FieldTable.{predictor_of, kind_of};
 ghost use Rattle.xif_job.specs.Outcome.{ReadsAs};
+ghost use Rattle.xif_job.specs.Ranges.{IsLawfulKind};
 ghost use Rattle.xif_job.specs.Tables.{members};
 
 use crate::addresses::Addresses;
@@ -45,7 +46,8 @@ const WORDS: [(&str, KindName); 4] = [
 /// The predictor that the table `core` says. Its bits and addresses are read for every kind.
 #[tactic(auto, unfolding(crate::specs::FieldTable::predictor_of))]
 pub(crate) fn read_predictor(alloc: Global, table: Option<&Table>) -> Result<Kind, JobFault>
-    ensures { ReadsAs (λ k. k) result (predictor_of (members table.entry)) }
+    ensures kind { ReadsAs (λ k. k) result (predictor_of (members table.entry)) }
+    ensures lawful { IfOk result IsLawfulKind }
 {
     let absent = Absent::Default(KindName::Never);
     let name = choice(
@@ -73,7 +75,10 @@ pub(crate) fn read_predictor(alloc: Global, table: Option<&Table>) -> Result<Kin
 
 /// The predictor of a name, which has the bits or the targets if it wants them.
 fn kind_named(name: KindName, bits: u8, targets: Addresses) -> Kind
-    ensures { result ≡ kind_of name bits targets }
+    requires bits { (1 ≤ bits) × (bits ≤ 12) }
+    requires targets { (1 ≤ length targets) × (length targets ≤ 64) }
+    ensures kind { result ≡ kind_of name bits targets }
+    ensures lawful { IsLawfulKind result }
 {
     match name {
         KindName::Never => Kind::Never,

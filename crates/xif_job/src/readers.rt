@@ -1,5 +1,5 @@
 //! Readers of fields, by kind: what stands at a name of a table, or the fault of the field.
-ghost use Rattle.std.specs.Prelude.{◌≡◌, ◌≤◌, ◌<◌, ◌%◌, ◌^◌, [], ◌∷◌, IfOk, Some, is_some, string_bytes};
+ghost use Rattle.std.specs.Prelude.{◌≡◌, ◌≤◌, ◌<◌, ◌%◌, ◌^◌, ◌↔◌, [], ◌∷◌, length, IfOk, IsTrue, Some, is_some, string_bytes};
 ghost use Rattle.std.specs.List.{list_all, list_any};
 ghost use Rattle.std.specs.Str.{bytes_eq};
 ghost use Rattle.std.specs.BTreeMap.{keys};
@@ -291,9 +291,11 @@ pub(crate) fn numbers(
     range: Range,
     value: Option<&Value>,
 ) -> Result<Vec<u32>, JobFault>
-    requires { range.high < 2 ^ 32 }
-    ensures { ReadsAs (λ v. v.items) result
+    requires default { IsIn counts 1 }
+    requires bits { range.high < 2 ^ 32 }
+    ensures value { ReadsAs (λ v. v.items) result
         (numbers_in field counts range (Absent.Default (0 ∷ [])) (data_of value.entry)) }
+    ensures many { IfOk result (λ v. IsIn counts (length v.items)) }
 {
     let Some(value) = value else {
         return Ok(vec![in alloc; 0]?);
@@ -312,8 +314,9 @@ fn integers(
     values: &[Value],
 ) -> Result<Vec<u32>, JobFault>
     requires { range.high < 2 ^ 32 }
-    ensures { ReadsAs (λ v. v.items) result
+    ensures value { ReadsAs (λ v. v.items) result
         (integers_in field counts range (items_view values.now)) }
+    ensures many { IfOk result (λ v. IsIn counts (length v.items)) }
 {
     if !are_integers(values) {
         return Err(JobFault::WrongKind(field));
@@ -323,7 +326,8 @@ fn integers(
 }
 
 fn has_length(values: &[Value], counts: Range) -> bool
-    ensures { result ≡ is_in counts (count (items_view values.now)) }
+    ensures value { result ≡ is_in counts (count (items_view values.now)) }
+    ensures length { IsTrue result ↔ IsIn counts (length values.now) }
 {
     counts.contains(values.len() as u64)
 }
@@ -347,8 +351,9 @@ fn each_integer(
     values: &[Value],
 ) -> Result<Vec<u32>, JobFault>
     requires { range.high < 2 ^ 32 }
-    ensures { ReadsAs (λ v. v.items) result
+    ensures value { ReadsAs (λ v. v.items) result
         (each (integer_in field range) (items_view values.now)) }
+    ensures all { IfOk result (λ v. length v.items ≡ length values.now) }
 {
     let mut numbers = Vec::new(alloc);
     for value in values {

@@ -1,6 +1,7 @@
-use Rattle.std.proofs.Common.{◌≡◌, inl, [], Result, Ok, Err, rules}
+use Rattle.std.proofs.Common.{◌≡◌, inl, inr, [], Result, Ok, Err, rules}
 use Rattle.std.specs.String.{string_bytes}
 use Rattle.xif_cli.specs.declared.status.Status.{Status}
+use Rattle.xif_cli.specs.declared.status.Status.TheVariants.{NoMemory}
 use Rattle.xif_cli.specs.Outcome.{Answer, prints, judge_status}
 use Rattle.xif_cli.specs.Reading.{seen}
 use Rattle.xif_cli.proofs.Steps.{ends_refused, ends_read, refused_with, refuses-waveform}
@@ -22,6 +23,13 @@ returns-in_err-judged-clause-ends g c =
     let refusal : Result Answer Status = seen (λ answer. answer) c.from_residual-in_err-judged.result in
     let same : refusal ≡ Err (judge_status fail) = search rules in
     ends_read (waveform_in c.args.waveform.now) (answer_to job) ends.0 refusal ends.1.1 (answer-fail job ends.0 fail refusal fails same) (no_read_fault fail refusal same)
+
+pub returns-in_err-text-clause-ends : goal.returns-in_err-text-clause-ends
+returns-in_err-text-clause-ends g c =
+    let ends = c.in_ok-read_into.ensures.ends in
+    let refusal : Result Answer Status = seen (λ answer. answer) c.from_residual-in_err-text.result in
+    let none : refusal ≡ Err NoMemory = search rules in
+    ends_read (waveform_in c.args.waveform.now) (answer_to c.args.job.now) ends.0 refusal ends.1.1 (inr none) (λ w is. absurd (cc))
 
 pub returns-clause-ends : goal.returns-clause-ends
 returns-clause-ends g c =

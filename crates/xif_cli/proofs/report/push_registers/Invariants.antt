@@ -1,11 +1,13 @@
-use Rattle.std.proofs.Common.{◌≡◌, ◌++◌, ◌+◌, drop}
-use Rattle.std.specs.List.{enumerate_from, flat_map}
+use Rattle.std.proofs.Common.{◌≡◌, ◌≤◌, ◌++◌, ◌-◌}
+use Rattle.std.specs.List.{range_with_len, flat_map}
 use Rattle.std.specs.String.{string_bytes}
+use Rattle.inorder_machine.specs.Machine.{register_in}
 use Rattle.xif_cli.specs.Report.{register_line}
 use Rattle.xif_cli.proofs.report.push_registers.Given as goal
 
--- what is written, and the lines of the registers that are left, are the whole
-abbrev pub invariant-loop-index : goal.invariant-loop-index
-invariant-loop-index l =
-    string_bytes l.text ++ flat_map (λ r. register_line r.0 r.1) (enumerate_from (l.index + 1) (drop l.index l.others))
-    ≡ string_bytes l.initial.text ++ flat_map (λ r. register_line r.0 r.1) (enumerate_from 1 l.others)
+abbrev pub invariant-loop-number : goal.invariant-loop-number
+invariant-loop-number l = record {
+  first : 1 ≤ l.number;
+  -- the lines of the registers so far are written
+  lines : string_bytes l.text ≡ string_bytes l.initial.text ++ flat_map (λ i. register_line i (register_in l.registers i)) (range_with_len 1 (l.number - 1));
+}

@@ -1,0 +1,4 @@
+pub mod Small
+pub mod Counting
+pub mod Front
+pub mod Telling
