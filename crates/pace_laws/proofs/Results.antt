@@ -44,9 +44,10 @@ offered-carries m k us f = go (offered_use m.engine) refl
     go None h = tt
     go (Some u) h = f u (carried-at m.engine.result_waiting m.engine.script.result m.engine.cycle m.engine.uses u k.results h)
 
-pub ended-joint : (m : Machines) (ch : Choices) (input : CpuIn) (k : Paired 0 m) → Sound m.core.params.split m.core.flight ch → (h : Half 0 m ch)
-    → Joint 0 m.core.next_seq (free_id m.core.flight) (m.engine.cycle + 1) h.answered (settled_entries ch (bus_for 0 m.engine ch input) m.core.flight) (ended_uses m.engine (cpu_for 0 ch) (engine_drive m.engine (cpu_for 0 ch)) input)
-ended-joint m ch input k so h =
+pub ended-joint : (m : Machines) (ch : Choices) (input : CpuIn) (k : Paired 0 m) (so : Sound m.core.params.split m.core.flight ch)
+    → Joint 0 m.core.next_seq (free_id m.core.flight) (m.engine.cycle + 1) (half 0 m ch k so).answered (settled_entries ch (bus_for 0 m.engine ch input) m.core.flight) (ended_uses m.engine (cpu_for 0 ch) (engine_drive m.engine (cpu_for 0 ch)) input)
+ended-joint m ch input k so =
+    let h = half 0 m ch k so in
     let w = m.core in
     let e = m.engine in
     let v = is_some ch.offer in
