@@ -1,34 +1,32 @@
 -- What the core chooses for the oldest entry, where that one is neither done nor stops the machine.
-use Rattle.std.proofs.Common.{◌≡◌, ◌≢◌, ◌<◌, ◌≤◌, ◌==◌, ◌&&◌, ◌||◌, ◌++◌, ◌+◌, ◌⊎◌, inl, inr, ℕ, zero, suc, Bool, true, false, cond, not, List, [], ◌∷◌, filter, take, drop, length, Option, Some, None, refl, sym, ap, ◌∙◌, subst, arith}
-use Rattle.std.specs.Prelude.{find, is_some, is_none, IfSome, IsSome, IsSomeAnd, ⊤}
+use Rattle.std.proofs.Common.{◌≡◌, ◌≢◌, ◌<◌, ◌≤◌, ◌==◌, ◌&&◌, ◌||◌, ◌++◌, ◌⊎◌, inl, inr, ℕ, zero, suc, Bool, true, false, cond, not, List, [], ◌∷◌, filter, take, drop, Option, Some, None, refl, sym, ap, ◌∙◌, subst, arith}
+use Rattle.std.specs.Prelude.{find, is_some, IfSome, IsSomeAnd}
 use Rattle.std.specs.Option.{option_or, option_and_then, option_map}
 use Rattle.std.specs.List.{list_any, last_or}
-use Rattle.std.proofs.lemmas.Bool.{eq-eqb, ne_eqb, false≢true, true≢false}
+use Rattle.std.proofs.lemmas.Bool.{ne_eqb}
 use Rattle.rv32_table.specs.declared.instr.Instr.{Instr}
 use Rattle.rv32_table.specs.declared.instr.Kind.{Kind}
 use Rattle.rv32_table.specs.declared.instr.Kind.TheVariants as row
 use Rattle.rv32_table.specs.Instr.{kind_of, sources_of}
 use Rattle.inorder_machine.specs.declared.line.Stepped.{Stepped}
 use Rattle.inorder_machine.specs.declared.line.Stepped.TheVariants.{Retired, Stop}
-use Rattle.inorder_machine.specs.declared.stop.StopCause.{StopCause}
 use Rattle.xif_session.specs.Facts.{is_accepted as is_response_accepted}
 use Rattle.cycle_spec.specs.declared.choices.Choices.{Choices}
 use Rattle.cycle_spec.specs.declared.choices.Executed.{Executed}
-use Rattle.cycle_spec.specs.declared.choices.Presented.{Presented}
 use Rattle.cycle_spec.specs.declared.entry.Entry.{Entry}
 use Rattle.cycle_spec.specs.declared.entry.EntryKind.{EntryKind}
 use Rattle.cycle_spec.specs.declared.entry.EntryKind.TheVariants.{Local, Unknown, Nowhere}
 use Rattle.cycle_spec.specs.declared.log.Cut.{Cut}
-use Rattle.cycle_spec.specs.Flight.{has_seq, is_control, is_control_row, is_row, is_open, is_unknown, is_unknown_kind, is_pending, is_undecided, is_waiting, is_stopping, is_safe, older_than, count_through, source_behind, is_here, are_sources_here, is_held_back, may_execute, may_execute_kind, ready_behind, ready_oldest, behind_safe, certain}
+use Rattle.cycle_spec.specs.Flight.{has_seq, is_control, is_control_row, is_row, is_open, is_unknown, is_unknown_kind, is_pending, is_undecided, is_waiting, is_stopping, is_safe, count_through, source_behind, is_here, are_sources_here, is_held_back, may_execute, may_execute_kind, ready_behind, ready_oldest, behind_safe, certain}
 use Rattle.cycle_spec.specs.State.{Core}
-use Rattle.cycle_spec.specs.Choices.{retirement, outcome_of, executed_kind, executed_entry, execution, store_cut, transfer_cut, control_cut, gone_by, offer_in, presented_entry, presentation_of, present_in, among, kill_among, release_in, choices_running, choices_draining, choices_drain_begins}
-use Rattle.cycle_lists.specs.Lists.{Each, Pairs, FirstAt}
+use Rattle.cycle_spec.specs.Choices.{retirement, outcome_of, executed_kind, executed_entry, execution, store_cut, transfer_cut, control_cut, gone_by, offer_in, presented_entry, presentation_of, present_in, kill_among, release_in, choices_running}
+use Rattle.cycle_lists.specs.Lists.{Each, Pairs}
 use Rattle.cycle_lists.specs.Order.{Before}
-use Rattle.cycle_lists.proofs.Tests.{and-left, and-right, and-false, not-both, not-in, or-false_left, or-false_right, false-or, or-true, some-is, some-from}
-use Rattle.cycle_lists.proofs.Every.{Each-from, Each-filter, Each-drop, Each-at, each}
+use Rattle.cycle_lists.proofs.Tests.{and-right, and-false, not-both, not-in, or-false_left, false-or, some-from}
+use Rattle.cycle_lists.proofs.Every.{Each-from, Each-filter, Each-drop, Each-at}
 use Rattle.cycle_lists.proofs.Places.{first-at, find-none}
 use Rattle.cycle_paired.specs.Paired.{is_live, IsEntry, Behind}
-use Rattle.cycle_paired.proofs.Facts.{live-unknown, live-closed, open-unknown, open-none, open-unsafe, none-refused, accepted-some, behind-open, waiting-closed}
+use Rattle.cycle_paired.proofs.Facts.{live-unknown, live-closed, open-unknown, open-none, open-unsafe, none-refused, accepted-some}
 use Rattle.pace_laws.specs.Measure.{is_over}
 use Rattle.pace_laws.proofs.Steps.{Leads, leads-take, Spares}
 

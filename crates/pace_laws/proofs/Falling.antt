@@ -1,13 +1,12 @@
 -- The measure is bounded, and falls in a cycle in which the oldest entry neither stops nor is done.
-use Rattle.std.proofs.Common.{◌≡◌, ◌≢◌, ◌<◌, ◌≤◌, ◌==◌, ◌&&◌, ◌||◌, ◌++◌, ◌+◌, ◌*◌, ℕ, Bool, true, false, cond, not, List, [], ◌∷◌, Option, Some, None, refl, sym, ap, ◌∙◌, subst, arith}
-use Rattle.std.specs.Prelude.{is_some, is_none, IfSome, IsSome, IsSomeAnd}
-use Rattle.std.proofs.lemmas.Bool.{false≢true, true≢false}
+use Rattle.std.proofs.Common.{◌≡◌, ◌≢◌, ◌<◌, ◌≤◌, ◌&&◌, ◌+◌, ◌*◌, ℕ, Bool, true, false, cond, not, List, [], ◌∷◌, Option, Some, None, refl, sym, ap, ◌∙◌, subst, arith}
+use Rattle.std.specs.Prelude.{is_some, is_none, IfSome, IsSomeAnd}
+use Rattle.std.proofs.lemmas.Bool.{true≢false}
 use Rattle.xif_drive.specs.Scripts.{delay_of}
 use Rattle.xif_signals.specs.declared.bus.Bus.{Bus}
 use Rattle.xif_signals.specs.declared.bus.CpuIn.{CpuIn}
 use Rattle.xif_session.specs.declared.fact.Response.{Response}
 use Rattle.xif_session.specs.Facts.{is_accepted as is_response_accepted, is_refused, response_on}
-use Rattle.rv32_table.specs.declared.instr.Instr.{Instr}
 use Rattle.cycle_spec.specs.declared.choices.Choices.{Choices}
 use Rattle.cycle_spec.specs.declared.choices.Executed.{Executed}
 use Rattle.cycle_spec.specs.declared.entry.Entry.{Entry}
@@ -19,20 +18,20 @@ use Rattle.cycle_spec.specs.Core.{dispatch_of, settled_entries}
 use Rattle.cycle_spec.specs.Engine.{latest, has_key, issue_ready}
 use Rattle.cycle_spec.specs.Cycle.{Machines}
 use Rattle.cycle_lists.specs.Lists.{Each}
-use Rattle.cycle_lists.proofs.Tests.{and-left, and-right, and-both, and-false, not-both, not-out, false-or, or-false_left, or-false_right, or-right, some-from}
+use Rattle.cycle_lists.proofs.Tests.{and-both, and-false, not-both, not-out, or-false_left, or-false_right, some-from}
 use Rattle.cycle_lists.proofs.Every.{Each-at}
 use Rattle.cycle_lists.proofs.Places.{last-found}
-use Rattle.cycle_paired.specs.Paired.{is_live, IsEntry, Paired}
+use Rattle.cycle_paired.specs.Paired.{is_live, Paired}
 use Rattle.cycle_paired.proofs.Cycling.{cpu_for}
 use Rattle.cycle_paired.proofs.Closing.{bus_for, both_after}
-use Rattle.pace_laws.specs.Measure.{rest, key_of, start_in, issue_turn, operand_turn, register_turn, take_turn, offer_rest, ready_rest, result_rest, wait_of, operand_rest, release_rest, joint_rest, issue_rest, word_rest, kind_rest, is_over, oldest_rest, measure}
-use Rattle.pace_laws.proofs.Delays.{Bounds, rest-bound, offer-bound, offer-some}
-use Rattle.pace_laws.proofs.Steps.{Leads, lead-settled, lead-dispatched, moved, for_result, answered_one, answered-leaves, moved-goes, response-stays, response-waits, response-comes, sent-stays, released-stays, release-comes, over-comes, seq-is}
+use Rattle.pace_laws.specs.Measure.{rest, key_of, start_in, issue_turn, operand_turn, register_turn, take_turn, ready_rest, result_rest, wait_of, operand_rest, release_rest, issue_rest, word_rest, kind_rest, is_over, oldest_rest, measure}
+use Rattle.pace_laws.proofs.Delays.{rest-bound, offer-bound, offer-some}
+use Rattle.pace_laws.proofs.Steps.{Leads, lead-settled, lead-dispatched, for_result, answered_one, answered-leaves, moved-goes, response-stays, response-waits, response-comes, sent-stays, released-stays, release-comes, over-comes, seq-is}
 use Rattle.pace_laws.proofs.Steady.{IsSteady}
 use Rattle.pace_laws.proofs.Uses.{IsKept}
 use Rattle.pace_laws.proofs.Keeping.{Steady, IsSent}
 use Rattle.pace_laws.proofs.Track.{Its, its-of, start-its, OtherStarts}
-use Rattle.pace_laws.proofs.Results.{Scene, moved_in, uses_in}
+use Rattle.pace_laws.proofs.Results.{Scene, moved_in}
 use Rattle.pace_laws.proofs.Finishing.{Drops, NextUse, next-use, waits-little}
 use Rattle.pace_laws.proofs.Operands.{operands-fall}
 use Rattle.pace_laws.proofs.Offering.{offer-falls}

@@ -1,35 +1,33 @@
 -- The result of the oldest entry in a cycle: none of what is left of it comes back, and it falls
 -- once the entry is released and has sent its registers.
-use Rattle.std.proofs.Common.{◌≡◌, ◌≢◌, ◌<◌, ◌≤◌, ◌==◌, ◌&&◌, ◌||◌, ◌++◌, ◌+◌, ◌-◌, ◌*◌, ◌⊎◌, inl, inr, ℕ, Bool, true, false, cond, not, List, [], ◌∷◌, Option, Some, None, refl, sym, ap, ◌∙◌, subst, arith}
-use Rattle.std.specs.Prelude.{find, is_some, is_none, nat_le, IfSome, IsSome}
+use Rattle.std.proofs.Common.{◌≡◌, ◌<◌, ◌≤◌, ◌==◌, ◌&&◌, ◌||◌, ◌+◌, ◌*◌, ◌⊎◌, inl, inr, ℕ, Bool, true, false, not, List, ◌∷◌, Option, Some, None, refl, sym, ap, ◌∙◌, subst, arith}
+use Rattle.std.specs.Prelude.{find, is_some, is_none, IfSome, IsSome}
 use Rattle.std.specs.Option.{option_map}
-use Rattle.std.proofs.lemmas.Bool.{eq-eqb, ne_eqb, eqb-true, false≢true, true≢false, le-leb}
+use Rattle.std.proofs.lemmas.Bool.{eq-eqb, ne_eqb, true≢false, le-leb}
 use Rattle.xif_drive.specs.Scripts.{delay_of}
 use Rattle.xif_signals.specs.declared.bus.Bus.{Bus}
 use Rattle.xif_signals.specs.declared.bus.CpuIn.{CpuIn}
-use Rattle.xif_session.specs.declared.fact.Response.{Response}
-use Rattle.xif_session.specs.declared.fact.Decision.{Decision}
 use Rattle.xif_session.specs.Facts.{is_accepted as is_response_accepted, is_released, is_killed}
 use Rattle.cycle_spec.specs.declared.choices.Choices.{Choices}
 use Rattle.cycle_spec.specs.declared.entry.Entry.{Entry}
 use Rattle.cycle_spec.specs.declared.use_of.Use.{Use}
-use Rattle.cycle_spec.specs.Flight.{holds_id, is_waiting, is_open, is_unknown, is_unknown_kind, is_stopping, reads_registers}
+use Rattle.cycle_spec.specs.Flight.{holds_id, is_waiting, is_unknown, is_unknown_kind, is_stopping, reads_registers}
 use Rattle.cycle_spec.specs.Core.{kept_entries, settled_entries}
 use Rattle.cycle_spec.specs.Engine.{is_accepted, is_next, is_complete, has_operands, has_start, is_due, is_past_ready, offered_by, offered_use, use_or, register_read_of, engine_drive, ended_uses}
 use Rattle.cycle_spec.specs.Cycle.{Machines}
 use Rattle.cycle_lists.specs.Lists.{Each, Pairs}
-use Rattle.cycle_lists.proofs.Tests.{and-left, and-right, and-both, not-both, not-in, not-out, not-not, some-is, or-left, or-right, false-or, or-false_left, some-from}
+use Rattle.cycle_lists.proofs.Tests.{and-left, and-right, and-both, not-both, not-in, not-out, false-or, or-false_left}
 use Rattle.cycle_lists.proofs.Every.{Each-from, Each-both, Each-at, Each-front, Pairs-older}
 use Rattle.cycle_lists.proofs.Places.{find-at}
 use Rattle.cycle_paired.specs.Paired.{is_live, is_live_use, response_of, decision_of, Alike, IsUse, Older, Paired}
-use Rattle.cycle_paired.proofs.Facts.{accepted-answered, ready-live, live-unknown}
+use Rattle.cycle_paired.proofs.Facts.{accepted-answered, ready-live}
 use Rattle.cycle_paired.proofs.Lasting.{carried-at}
 use Rattle.cycle_paired.proofs.Cycling.{cpu_for, half}
 use Rattle.cycle_paired.proofs.Closing.{bus_for, both_after}
 use Rattle.pace_laws.specs.Measure.{rest, take_turn, offer_rest, wait_of, ready_rest, result_rest, is_over}
-use Rattle.pace_laws.proofs.Delays.{rest-bound, offer-bound, offer-some}
-use Rattle.pace_laws.proofs.Steps.{Leads, moved, for_result, lead-kept, lead-settled, kept_one, kept-goes, answered-leaves, answered_one, done-comes, response-stays, moved-goes}
-use Rattle.pace_laws.proofs.Uses.{IsKept, kept-ended, each-ready}
+use Rattle.pace_laws.proofs.Delays.{rest-bound, offer-bound}
+use Rattle.pace_laws.proofs.Steps.{moved, for_result, lead-kept, lead-settled, kept_one, kept-goes, answered-leaves, done-comes}
+use Rattle.pace_laws.proofs.Uses.{IsKept, kept-ended}
 use Rattle.pace_laws.proofs.Chosen.{find-first}
 use Rattle.pace_laws.proofs.Track.{Its, its-of, HasId, of-key, of-start, OtherStarts, SameReady, SameOrder, MayReady, ended-same, ended-order, start-apart, ready-same, ready-may, applied}
 use Rattle.pace_laws.proofs.Results.{ended-joint, channel, Scene, moved_in, uses_in, unfinished-its, carries-its, offered-in, start-of}
@@ -169,7 +167,7 @@ becomes-ready d m ch input e c i o q live id rel acc wait =
     let cop = engine_drive m.engine (cpu_for 0 ch) in
     let us = ended_uses m.engine cpu cop input in
     let h = half 0 m ch c.paired c.sound in
-    let j = ended-joint m ch input c.paired c.sound h in
+    let j = ended-joint m ch input c.paired c.sound in
     let y = its-of h.answered (settled_entries ch (bus_for 0 m.engine ch input) m.core.flight) f us (lead-settled ch (bus_for 0 m.engine ch input) m.core.flight e c.leads c.chosen.spares c.chosen.retire) live j.older j.match in
     let kept = kept-ended m.engine cpu cop input c.paired.below c.paired.older (λ v z. carried-at m.engine.result_waiting m.engine.script.result m.engine.cycle m.engine.uses v c.paired.results z) c.steady.uses in
     let none : y.its.ready ≡ None = (Each-at (λ v. HasId e.id v → SameReady i.its.start None v) us y.front y.its y.back y.here (ended-same m.engine ch input e.id i.its.start None o (of-key c.paired.answered e m.engine.uses i (SameReady i.its.start None) c.paired.older (refl, q))) (y.alike.hart_is, y.alike.id ∙ id)).1 in

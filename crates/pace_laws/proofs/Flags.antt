@@ -1,6 +1,6 @@
 -- The registers that an accepted word reads are among those that the core sends for it, where all of
 -- them are here.
-use Rattle.std.proofs.Common.{◌≡◌, ◌<◌, ◌≤◌, ◌==◌, ◌&&◌, ◌++◌, ℕ, zero, suc, Bool, true, false, cond, not, List, [], ◌∷◌, map, Option, Some, None, refl, sym, ap, ◌∙◌, subst, arith}
+use Rattle.std.proofs.Common.{◌≡◌, ◌≤◌, ◌==◌, ◌&&◌, ◌++◌, ℕ, zero, suc, Bool, true, false, cond, not, List, [], ◌∷◌, map, Option, Some, None, refl, sym, ap, ◌∙◌, subst, arith}
 use Rattle.std.specs.Prelude.{bit_and, bit_or, nat_lt, find, fold, max, min}
 use Rattle.std.specs.List.{list_all}
 use Rattle.std.specs.Option.{option_map, option_map_or}
@@ -13,24 +13,22 @@ use Rattle.xif_base.specs.declared.params.Params.{Params}
 use Rattle.xif_base.specs.Flags.{even_bit, odd_bit}
 use Rattle.coproc_config.specs.declared.operation.Reads.{Reads}
 use Rattle.coproc_config.specs.declared.operation.Reads.TheVariants as reads
-use Rattle.coproc_config.specs.declared.accept.Hit.{Hit}
 use Rattle.coproc_config.specs.Table.{operation_line, lanes_read, pairs_read}
 use Rattle.coproc_config.specs.Set.{UnitTable, Place, places}
-use Rattle.coproc_config.specs.Accept.{is_even, can_read, can_write, takes, flag_of, union_of, read_flags, hit_at, hit_of}
+use Rattle.coproc_config.specs.Accept.{is_even, can_read, can_write, takes, flag_of, read_flags, hit_at, hit_of}
 use Rattle.inorder_machine.specs.declared.units.Half.{Half}
 use Rattle.inorder_machine.specs.declared.units.Half.TheVariants.{Low, High}
 use Rattle.inorder_machine.specs.Units.{bit_of, half_register}
 use Rattle.xif_session.specs.Tests.{is_within}
 use Rattle.cycle_spec.specs.declared.entry.Entry.{Entry}
-use Rattle.cycle_spec.specs.declared.entry.Operand.{Operand}
 use Rattle.cycle_spec.specs.declared.entry.Operand.TheVariants.{Here, NotYet}
 use Rattle.cycle_spec.specs.Flight.{older_than, operand_at, operand_behind, is_here}
 use Rattle.cycle_spec.specs.State.{Core}
-use Rattle.cycle_spec.specs.Choices.{is_late, has_half, half_value, half_of, half_flag, flags_of}
+use Rattle.cycle_spec.specs.Choices.{is_late, has_half, half_value, half_flag, flags_of}
 use Rattle.cycle_spec.specs.Engine.{register_read_of}
 use Rattle.cycle_lists.specs.Lists.{Each}
 use Rattle.cycle_lists.proofs.Tests.{and-left, and-right}
-use Rattle.cycle_lists.proofs.Every.{Each-from, Each-append}
+use Rattle.cycle_lists.proofs.Every.{Each-append}
 use Rattle.cycle_lists.proofs.Places.{first-at}
 
 -- ---- sets of flags

@@ -1,26 +1,22 @@
 -- In each cycle something retires, or the measure falls; in a drain what is in flight gets less, or
 -- the measure falls.
-use Rattle.std.proofs.Common.{◌≡◌, ◌≢◌, ◌<◌, ◌≤◌, ◌==◌, ◌&&◌, ◌||◌, ◌++◌, ◌+◌, ◌-◌, ◌*◌, ◌⊎◌, inl, inr, ℕ, zero, suc, Bool, true, false, cond, not, List, [], ◌∷◌, take, drop, length, Option, Some, None, refl, sym, ap, ◌∙◌, subst, arith}
-use Rattle.std.specs.Prelude.{is_some, is_none, nat_lt, IfSome, IsSome, IsSomeAnd}
-use Rattle.std.specs.List.{list_any}
-use Rattle.std.proofs.lemmas.Bool.{false≢true, true≢false, lt-ltb}
-use Rattle.std.specs.Option.{option_or}
+use Rattle.std.proofs.Common.{◌≡◌, ◌<◌, ◌≤◌, ◌&&◌, ◌||◌, ◌+◌, ◌-◌, ◌*◌, ◌⊎◌, inl, inr, ℕ, zero, suc, Bool, true, false, cond, not, List, [], ◌∷◌, take, length, Option, Some, None, refl, sym, ap, ◌∙◌, subst, arith}
+use Rattle.std.specs.Prelude.{is_some}
+use Rattle.std.proofs.lemmas.Bool.{lt-ltb}
 use Rattle.inorder_machine.specs.declared.stop.StopCause.{StopCause}
 use Rattle.xif_signals.specs.declared.bus.Bus.{Bus}
-use Rattle.xif_signals.specs.declared.bus.CpuIn.{CpuIn}
 use Rattle.xif_session.specs.Facts.{is_accepted as is_response_accepted, is_refused}
 use Rattle.xif_session.specs.declared.fact.Response.{Response}
-use Rattle.cycle_spec.specs.declared.choices.Choices.{Choices}
 use Rattle.cycle_spec.specs.declared.choices.Mode.{Mode}
 use Rattle.cycle_spec.specs.declared.choices.Mode.TheVariants.{Running, DrainBegins, Draining}
 use Rattle.cycle_spec.specs.declared.entry.Entry.{Entry}
 use Rattle.cycle_spec.specs.Flight.{is_open, is_stopping, is_safe, is_safe_kind, youngest_released}
 use Rattle.cycle_spec.specs.State.{Core}
-use Rattle.cycle_spec.specs.Choices.{stop_at, retirement, execution, control_cut, store_cut, choices, choices_by, choices_in, choices_running, choices_stopping, choices_draining, choices_drain_begins, stay_with, may_dispatch}
-use Rattle.cycle_spec.specs.Core.{settled_entries, kept_entries, with_dispatch, dispatch_of, next_entry}
+use Rattle.cycle_spec.specs.Choices.{stop_at, retirement, choices, choices_by, choices_in, choices_running, choices_draining, choices_drain_begins, stay_with}
+use Rattle.cycle_spec.specs.Core.{settled_entries, with_dispatch, dispatch_of, next_entry}
 use Rattle.cycle_spec.specs.Cycle.{Machines, input_at, cycle}
 use Rattle.cycle_lists.specs.Lists.{Each, Pairs}
-use Rattle.cycle_lists.proofs.Tests.{and-left, not-both, not-in, false-or, or-false_left, some-is}
+use Rattle.cycle_lists.proofs.Tests.{and-left, not-both, not-in, false-or}
 use Rattle.cycle_lists.proofs.Every.{Each-both, Each-at}
 use Rattle.cycle_lists.proofs.Places.{last-found}
 use Rattle.cycle_paired.specs.Paired.{IsEntry, Behind, Paired}
@@ -33,7 +29,6 @@ use Rattle.pace_laws.proofs.Steps.{Leads}
 use Rattle.pace_laws.proofs.Steady.{Shields, LastIs, LastReleased}
 use Rattle.pace_laws.proofs.Keeping.{Steady, steady-cycle, length-settled, length-late}
 use Rattle.pace_laws.proofs.Chosen.{Chosen, Stays, Drains, running-chosen, drain-chosen}
-use Rattle.pace_laws.proofs.Results.{Scene}
 use Rattle.pace_laws.proofs.Falling.{oldest-bound, falls}
 
 pub cycle-is : (m : Machines) (answer : ℕ → ℕ → ℕ) → cycle m 0 answer ≡ both_after 0 answer m (choices m.core) (input_at m 0)

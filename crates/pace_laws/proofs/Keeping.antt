@@ -1,17 +1,15 @@
 -- Core and engine stay steady in every cycle that doesn't stop the machine.
-use Rattle.std.proofs.Common.{◌≡◌, ◌≢◌, ◌<◌, ◌≤◌, ◌==◌, ◌&&◌, ◌||◌, ◌++◌, ◌+◌, ◌-◌, ◌⊎◌, inl, inr, ℕ, Bool, true, false, cond, not, List, [], ◌∷◌, map, take, drop, length, Option, Some, None, refl, sym, ap, ◌∙◌, subst, arith}
+use Rattle.std.proofs.Common.{◌≡◌, ◌≢◌, ◌<◌, ◌≤◌, ◌==◌, ◌++◌, ◌+◌, ◌-◌, ◌⊎◌, inl, inr, ℕ, Bool, true, false, cond, List, [], ◌∷◌, map, take, length, Option, Some, None, refl, sym, ap, ◌∙◌, subst, arith}
 use Rattle.coproc_config.specs.Set.{UnitTable}
 use Rattle.coproc_config.specs.State.{zeros}
-use Rattle.std.specs.Prelude.{zero, suc, replicate, find, is_some, min, nat_lt, IfSome, IsSome}
-use Rattle.std.proofs.lemmas.Bool.{eq-eqb, ne_eqb, eqb-true, ltb-true, false≢true, true≢false}
+use Rattle.std.specs.Prelude.{zero, suc, replicate, find, is_some, nat_lt, IsSome}
+use Rattle.std.proofs.lemmas.Bool.{eq-eqb, ne_eqb, eqb-true, ltb-true}
 use Rattle.std.proofs.lemmas.List.{length-map, length-take, length-drop, length-append, take-map}
 use Rattle.std.proofs.Math.Seq.{take-append-add}
-use Rattle.coproc_config.specs.declared.accept.Hit.{Hit}
 use Rattle.coproc_config.specs.Accept.{hit_of}
 use Rattle.inorder_machine.specs.declared.stop.StopCause.{StopCause}
 use Rattle.xif_signals.specs.declared.bus.Bus.{Bus}
 use Rattle.xif_signals.specs.declared.bus.CpuIn.{CpuIn}
-use Rattle.xif_session.specs.declared.fact.Response.{Response}
 use Rattle.xif_session.specs.Facts.{is_issued, is_given, is_taken, response_on}
 use Rattle.xif_image.specs.Region.{word_at}
 use Rattle.cycle_spec.specs.declared.choices.Choices.{Choices}
@@ -22,24 +20,24 @@ use Rattle.cycle_spec.specs.declared.choices.Presented.{Presented}
 use Rattle.cycle_spec.specs.declared.entry.Entry.{Entry}
 use Rattle.cycle_spec.specs.declared.log.Cut.{Cut}
 use Rattle.cycle_spec.specs.declared.use_of.Use.{Use}
-use Rattle.cycle_spec.specs.Flight.{has_seq, holds_id, is_open, free_id, older_than, count_through, youngest_released, with_response, with_sent, with_result, with_outcome}
-use Rattle.cycle_spec.specs.State.{Core, Engine}
+use Rattle.cycle_spec.specs.Flight.{holds_id, free_id, older_than, count_through, youngest_released, with_response, with_sent, with_result, with_outcome}
+use Rattle.cycle_spec.specs.State.{Core}
 use Rattle.cycle_spec.specs.Choices.{choices, choices_by, choices_in, choices_draining, choices_drain_begins, stop_at, stay_with}
-use Rattle.cycle_spec.specs.Core.{cpu_out, word_in, response_on_offer, response_step, sent_on_present, sent_step, release_step, cut_step, drain_step, result_for, result_step, execute_step, retire_step, answered_entries, sent_entries, kept_entries, settled_entries, with_dispatch, dispatch_of, ahead_behind, memory_behind, mode_after, next_entry}
-use Rattle.cycle_spec.specs.Engine.{offered_hit, issue_ready, response_hit, register_ready, offered_use, engine_drive, units_in_harts, ended_uses}
+use Rattle.cycle_spec.specs.Core.{word_in, response_on_offer, response_step, sent_on_present, sent_step, release_step, cut_step, drain_step, result_for, result_step, execute_step, retire_step, sent_entries, kept_entries, settled_entries, with_dispatch, dispatch_of, ahead_behind, memory_behind, mode_after, next_entry}
+use Rattle.cycle_spec.specs.Engine.{offered_hit, issue_ready, register_ready, engine_drive, units_in_harts, ended_uses}
 use Rattle.cycle_spec.specs.Cycle.{Machines, input_at, cycle}
 use Rattle.cycle_spec.specs.Run.{Setup, new_machines}
 use Rattle.xif_drive.specs.Scripts.{largest_of}
-use Rattle.cycle_lists.specs.Lists.{Each, Pairs, FirstAt}
+use Rattle.cycle_lists.specs.Lists.{Each, Pairs}
 use Rattle.cycle_lists.specs.Order.{Before}
-use Rattle.cycle_lists.proofs.Tests.{and-left, and-right, and-both, not-both, or-left, or-right, some-at}
-use Rattle.cycle_lists.proofs.Every.{Each-map, Each-push, Pairs-older}
+use Rattle.cycle_lists.proofs.Tests.{and-left, and-right, and-both, or-left, or-right}
+use Rattle.cycle_lists.proofs.Every.{Each-map, Each-push}
 use Rattle.cycle_lists.proofs.Places.{last-found}
-use Rattle.cycle_lists.proofs.Order.{Kept, start-kept, response-kept, sent-kept}
+use Rattle.cycle_lists.proofs.Order.{start-kept, response-kept, sent-kept}
 use Rattle.cycle_paired.specs.Paired.{response_of, Paired}
 use Rattle.cycle_paired.specs.Reached.{begins_drain, resumes}
 use Rattle.cycle_paired.proofs.Facts.{other-numbers}
-use Rattle.cycle_paired.proofs.Choosing.{Presents, Sound, sound}
+use Rattle.cycle_paired.proofs.Choosing.{Presents, sound}
 use Rattle.cycle_paired.proofs.Lasting.{carried-at}
 use Rattle.cycle_paired.proofs.Cycling.{facts_of, cpu_for}
 use Rattle.cycle_paired.proofs.Closing.{bus_for, both_after}

@@ -1,42 +1,35 @@
 -- What is left of the offer of the oldest entry falls.
-use Rattle.std.proofs.Common.{◌≡◌, ◌≢◌, ◌<◌, ◌≤◌, ◌==◌, ◌&&◌, ◌||◌, ◌++◌, ◌+◌, ◌⊎◌, inl, inr, ℕ, Bool, true, false, cond, not, List, [], ◌∷◌, map, Option, Some, None, refl, sym, ap, ◌∙◌, subst, arith}
-use Rattle.std.specs.Prelude.{is_some, IfSome}
+use Rattle.std.proofs.Common.{◌≡◌, ◌<◌, ◌≤◌, ◌&&◌, ◌||◌, ◌++◌, ◌+◌, ◌⊎◌, inl, inr, ℕ, Bool, true, false, cond, not, List, [], ◌∷◌, map, Option, Some, None, refl, sym, ap, ◌∙◌, subst, arith}
+use Rattle.std.specs.Prelude.{is_some}
 use Rattle.std.specs.Option.{option_map_or}
 use Rattle.std.specs.List.{list_any}
-use Rattle.std.proofs.lemmas.Bool.{eq-eqb, false≢true, true≢false}
+use Rattle.std.proofs.lemmas.Bool.{eq-eqb, true≢false}
 use Rattle.std.proofs.lemmas.List.{map-append}
 use Rattle.xif_base.specs.declared.params.Key.{Key}
 use Rattle.coproc_config.specs.declared.accept.Hit.{Hit}
 use Rattle.coproc_config.specs.Accept.{hit_of}
-use Rattle.xif_signals.specs.declared.bus.CpuOut.{CpuOut}
 use Rattle.xif_signals.specs.declared.bus.CpuIn.{CpuIn}
-use Rattle.xif_session.specs.declared.fact.Decision.{Decision}
 use Rattle.xif_session.specs.declared.fact.Decision.TheVariants.{Undecided}
 use Rattle.xif_session.specs.Facts.{is_killed}
 use Rattle.xif_session.specs.Tests.{is_within}
 use Rattle.cycle_spec.specs.declared.choices.Choices.{Choices}
-use Rattle.cycle_spec.specs.declared.choices.Presented.{Presented}
 use Rattle.cycle_spec.specs.declared.entry.Entry.{Entry}
-use Rattle.cycle_spec.specs.declared.turn.Transaction.{Transaction}
-use Rattle.cycle_spec.specs.declared.turn.Turn.{Turn}
 use Rattle.cycle_spec.specs.declared.use_of.Use.{Use}
 use Rattle.cycle_spec.specs.Flight.{is_open, free_id}
 use Rattle.cycle_spec.specs.Turns.{turn_of, aged, is_past, transactions_after}
-use Rattle.cycle_spec.specs.Choices.{is_late, presentation_of, flags_of}
 use Rattle.cycle_spec.specs.Core.{id_in, word_in, presented_flags}
-use Rattle.cycle_spec.specs.Engine.{has_key, has_start, issue_key, register_key, commit_key, decided_by, latest, start_of, starts, goes_on, goes_on_in, is_offered_on, start_step, started_uses, issue_start, offered_hit, may_answer, issue_ready, register_ready, register_read_of, owner_if, answer_step, answered_uses, with_answer, with_operands, given_to, given_uses, lanes_on, decided_uses, with_end, ended, ended_uses, offered_use, settled_uses, engine_drive, ready_in_harts}
+use Rattle.cycle_spec.specs.Engine.{has_key, has_start, issue_key, register_key, commit_key, decided_by, latest, start_of, goes_on_in, is_offered_on, start_step, started_uses, issue_start, offered_hit, may_answer, issue_ready, register_read_of, owner_if, answered_uses, with_answer, with_operands, given_to, given_uses, lanes_on, decided_uses, with_end, ended, ended_uses, offered_use, engine_drive}
 use Rattle.cycle_spec.specs.Cycle.{Machines, hart_if}
-use Rattle.cycle_lists.specs.Lists.{Each, FirstAt}
-use Rattle.cycle_lists.proofs.Tests.{and-both, not-both, or-true, or-right}
-use Rattle.cycle_paired.specs.Paired.{Paired}
+use Rattle.cycle_lists.specs.Lists.{FirstAt}
+use Rattle.cycle_lists.proofs.Tests.{and-both, or-right}
 use Rattle.cycle_paired.proofs.Matching.{latest-at, key-here}
 use Rattle.cycle_paired.proofs.Starting.{OffersWord, starting}
 use Rattle.cycle_paired.proofs.Applying.{Readied, AllReadied, all-harts}
 use Rattle.cycle_paired.proofs.Cycling.{joint_of, cpu_for}
 use Rattle.cycle_paired.proofs.Closing.{both_after}
-use Rattle.pace_laws.specs.Measure.{rest, key_of, offer_of, issue_turn, operand_turn, joint_rest, issue_rest}
+use Rattle.pace_laws.specs.Measure.{rest, offer_of, issue_turn, operand_turn, joint_rest, issue_rest}
 use Rattle.pace_laws.proofs.Delays.{rest-aged, rest-falls}
-use Rattle.pace_laws.proofs.Results.{Scene, moved_in, uses_in}
+use Rattle.pace_laws.proofs.Results.{Scene, uses_in}
 use Rattle.pace_laws.proofs.Operands.{full-flags, same-turn, operand-aged}
 
 -- ---- the offer

@@ -1,10 +1,9 @@
 -- What is left of the register handshake of the oldest entry falls.
-use Rattle.std.proofs.Common.{◌≡◌, ◌≢◌, ◌<◌, ◌≤◌, ◌==◌, ◌&&◌, ◌||◌, ◌++◌, ◌+◌, ◌⊎◌, inl, inr, ℕ, Bool, true, false, cond, not, List, [], ◌∷◌, filter, Option, Some, None, refl, sym, ap, ◌∙◌, subst, arith, append_assoc}
-use Rattle.std.specs.Prelude.{is_some, IfSome, IsSome}
+use Rattle.std.proofs.Common.{◌≡◌, ◌<◌, ◌==◌, ◌&&◌, ◌++◌, ◌+◌, ◌⊎◌, inl, inr, ℕ, Bool, true, false, cond, not, List, [], ◌∷◌, filter, Option, Some, refl, sym, ap, ◌∙◌, subst, arith, append_assoc}
+use Rattle.std.specs.Prelude.{is_some}
 use Rattle.std.specs.Option.{option_map_or}
-use Rattle.std.proofs.lemmas.Bool.{eq-eqb, ne_eqb, false≢true, true≢false}
+use Rattle.std.proofs.lemmas.Bool.{eq-eqb, true≢false}
 use Rattle.coproc_config.specs.Accept.{hit_of}
-use Rattle.xif_base.specs.declared.params.Params.{Params}
 use Rattle.xif_signals.specs.declared.bus.CpuOut.{CpuOut}
 use Rattle.xif_signals.specs.declared.bus.CpuIn.{CpuIn}
 use Rattle.xif_session.specs.declared.fact.Response.{Response}
@@ -20,13 +19,13 @@ use Rattle.cycle_spec.specs.Flight.{is_waiting, reads_registers}
 use Rattle.cycle_spec.specs.Turns.{turn_of, aged, is_past, transactions_after}
 use Rattle.cycle_spec.specs.Choices.{is_late, presentation_of, flags_of}
 use Rattle.cycle_spec.specs.Core.{presented_id, presented_flags, present_owner}
-use Rattle.cycle_spec.specs.Engine.{has_key, issue_key, latest, start_of, new_use, start_step, started_uses, starts, goes_on, register_use, register_start, register_key, register_read_of, may_take, register_ready, issue_ready, owner_if, is_accepted}
+use Rattle.cycle_spec.specs.Engine.{has_key, issue_key, latest, new_use, start_step, started_uses, starts, register_use, register_start, register_read_of, may_take, register_ready, issue_ready, owner_if, is_accepted}
 use Rattle.cycle_spec.specs.Cycle.{Machines, hart_if}
 use Rattle.cycle_lists.specs.Lists.{Each, Pairs}
-use Rattle.cycle_lists.proofs.Tests.{and-left, and-right, and-both, and-false, not-both, not-out, some-at, or-true}
+use Rattle.cycle_lists.proofs.Tests.{and-left, and-right, and-both, and-false, not-both, not-out, some-at}
 use Rattle.cycle_lists.proofs.Every.{Each-filter, Each-push, Each-at, Pairs-younger}
 use Rattle.cycle_lists.proofs.Filters.{filter-at}
-use Rattle.cycle_paired.specs.Paired.{is_live_use, response_of, Older, Paired}
+use Rattle.cycle_paired.specs.Paired.{response_of, Older, Paired}
 use Rattle.cycle_paired.proofs.Matching.{latest-at, key-other}
 use Rattle.cycle_paired.proofs.Cycling.{cpu_for}
 use Rattle.cycle_paired.proofs.Closing.{bus_for, both_after}

@@ -1,46 +1,39 @@
 -- What is left of the result of the oldest entry falls.
-use Rattle.std.proofs.Common.{◌≡◌, ◌≢◌, ◌<◌, ◌≤◌, ◌==◌, ◌&&◌, ◌||◌, ◌++◌, ◌+◌, ◌-◌, ◌*◌, ◌⊎◌, inl, inr, ℕ, Bool, true, false, cond, not, List, [], ◌∷◌, Option, Some, None, refl, sym, ap, ◌∙◌, subst, arith}
-use Rattle.std.specs.Prelude.{find, is_some, is_none, nat_le, IfSome, IsSome}
+use Rattle.std.proofs.Common.{◌≡◌, ◌<◌, ◌≤◌, ◌&&◌, ◌+◌, ℕ, Bool, true, false, cond, not, List, Option, Some, None, refl, sym, ap, ◌∙◌, subst}
+use Rattle.std.specs.Prelude.{is_some, IfSome, IsSome}
 use Rattle.std.specs.Option.{option_map}
-use Rattle.std.proofs.lemmas.Bool.{eq-eqb, ne_eqb, eqb-true, false≢true, true≢false, le-leb}
+use Rattle.std.proofs.lemmas.Bool.{true≢false}
 use Rattle.xif_drive.specs.Scripts.{delay_of}
-use Rattle.xif_signals.specs.declared.bus.Bus.{Bus}
 use Rattle.xif_signals.specs.declared.bus.CpuIn.{CpuIn}
-use Rattle.xif_session.specs.declared.fact.Response.{Response}
-use Rattle.xif_session.specs.declared.fact.Decision.{Decision}
-use Rattle.xif_session.specs.declared.fact.Decision.TheVariants.{Undecided, Released, Killed}
-use Rattle.xif_session.specs.Facts.{is_accepted as is_response_accepted, is_refused, is_released, is_killed}
+use Rattle.xif_session.specs.Facts.{is_killed}
 use Rattle.cycle_spec.specs.declared.choices.Choices.{Choices}
-use Rattle.cycle_spec.specs.declared.choices.Executed.{Executed}
 use Rattle.cycle_spec.specs.declared.entry.Entry.{Entry}
 use Rattle.cycle_spec.specs.declared.turn.Transactions.{Transactions}
-use Rattle.cycle_spec.specs.declared.turn.Turn.{Turn}
 use Rattle.cycle_spec.specs.declared.use_of.Use.{Use}
-use Rattle.cycle_spec.specs.Flight.{holds_id, is_waiting, is_open, is_unknown, free_id}
+use Rattle.cycle_spec.specs.Flight.{free_id}
 use Rattle.cycle_spec.specs.Turns.{turn_of, aged, is_past, transactions_after}
 use Rattle.cycle_spec.specs.State.{Engine}
-use Rattle.cycle_spec.specs.Core.{result_owner, settled_entries, execute_step, retire_step, kept_entries, with_dispatch, dispatch_of}
-use Rattle.cycle_spec.specs.Engine.{issue_start, response_hit, is_accepted, is_next, is_complete, has_operands, has_start, is_due, is_past_ready, offered_by, offered_use, use_or, writeback_of, register_read_of, engine_drive, ended_uses, settled_uses, ready_in_harts}
+use Rattle.cycle_spec.specs.Core.{result_owner, settled_entries, execute_step, retire_step}
+use Rattle.cycle_spec.specs.Engine.{issue_start, response_hit, has_start, is_due, offered_by, offered_use, use_or, writeback_of, engine_drive, ended_uses, settled_uses}
 use Rattle.cycle_spec.specs.Cycle.{Machines}
-use Rattle.cycle_lists.specs.Lists.{Each, Pairs, FirstAt}
-use Rattle.cycle_lists.proofs.Tests.{and-left, and-right, and-both, not-both, not-in, not-out, some-is, or-left, or-right, false-or}
-use Rattle.cycle_lists.proofs.Every.{Each-from, Each-both, Each-at, Each-front, Pairs-older}
-use Rattle.cycle_lists.proofs.Places.{first-at, find-at}
-use Rattle.cycle_paired.specs.Paired.{is_live, live_entries, is_live_use, live_uses, response_of, decision_of, Alike, IsEntry, IsUse, Older, Paired}
+use Rattle.cycle_lists.specs.Lists.{Each}
+use Rattle.cycle_lists.proofs.Tests.{and-right, not-in, some-is}
+use Rattle.cycle_lists.proofs.Every.{Each-at}
+use Rattle.cycle_lists.proofs.Places.{first-at}
+use Rattle.cycle_paired.specs.Paired.{response_of, Paired}
 use Rattle.cycle_paired.proofs.Carrying.{Carries}
-use Rattle.cycle_paired.proofs.Facts.{Joint, accepted-answered, ready-live, live-unknown}
+use Rattle.cycle_paired.proofs.Facts.{Joint}
 use Rattle.cycle_paired.proofs.Choosing.{Sound}
 use Rattle.cycle_paired.proofs.Lasting.{carried-at, late-decided, late-result, late-executed, late-retired, result_entries, result_uses, waiting_after}
-use Rattle.cycle_paired.proofs.Cycling.{cpu_for, answers, gives, half_entries, half_uses, Half, half, result_write}
-use Rattle.cycle_paired.proofs.Closing.{bus_for, both_after}
+use Rattle.cycle_paired.proofs.Cycling.{cpu_for, answers, gives, half_entries, half_uses, Half, result_write}
+use Rattle.cycle_paired.proofs.Closing.{bus_for}
 use Rattle.cycle_paired.proofs.Same.{settled-is}
-use Rattle.pace_laws.specs.Measure.{rest, take_turn, offer_rest, wait_of, ready_rest, result_rest, is_over}
-use Rattle.pace_laws.proofs.Delays.{Bounds, rest-aged, rest-bound, offer-bound, offer-some, wait-falls, none-after, some-after}
-use Rattle.pace_laws.proofs.Steps.{Leads, moved, for_result, lead-kept, lead-settled, kept_one, kept-goes, answered-leaves, answered_one, done-comes, response-stays}
-use Rattle.pace_laws.proofs.Uses.{IsKept, kept-ended}
+use Rattle.pace_laws.specs.Measure.{rest, take_turn, offer_rest, wait_of, is_over}
+use Rattle.pace_laws.proofs.Delays.{rest-aged, rest-bound, wait-falls, none-after, some-after}
+use Rattle.pace_laws.proofs.Steps.{Leads, moved, for_result}
 use Rattle.pace_laws.proofs.Keeping.{Steady}
-use Rattle.pace_laws.proofs.Chosen.{Chosen, find-first}
-use Rattle.pace_laws.proofs.Track.{Its, its-of, HasId, of-key, of-start, OtherStarts, SameReady, SameOrder, MayReady, ended-same, ended-order, start-apart, ready-same, ready-may, applied}
+use Rattle.pace_laws.proofs.Chosen.{Chosen}
+use Rattle.pace_laws.proofs.Track.{Its}
 
 -- ---- the pairing before the units
 
@@ -51,9 +44,10 @@ offered-carries m k us f = go (offered_use m.engine) refl
     go None h = tt
     go (Some u) h = f u (carried-at m.engine.result_waiting m.engine.script.result m.engine.cycle m.engine.uses u k.results h)
 
-pub ended-joint : (m : Machines) (ch : Choices) (input : CpuIn) (k : Paired 0 m) → Sound m.core.params.split m.core.flight ch → (h : Half 0 m ch)
-    → Joint 0 m.core.next_seq (free_id m.core.flight) (m.engine.cycle + 1) h.answered (settled_entries ch (bus_for 0 m.engine ch input) m.core.flight) (ended_uses m.engine (cpu_for 0 ch) (engine_drive m.engine (cpu_for 0 ch)) input)
-ended-joint m ch input k so h =
+pub ended-joint : (m : Machines) (ch : Choices) (input : CpuIn) (k : Paired 0 m) (so : Sound m.core.params.split m.core.flight ch)
+    → Joint 0 m.core.next_seq (free_id m.core.flight) (m.engine.cycle + 1) (half 0 m ch k so).answered (settled_entries ch (bus_for 0 m.engine ch input) m.core.flight) (ended_uses m.engine (cpu_for 0 ch) (engine_drive m.engine (cpu_for 0 ch)) input)
+ended-joint m ch input k so =
+    let h = half 0 m ch k so in
     let w = m.core in
     let e = m.engine in
     let v = is_some ch.offer in

@@ -1,17 +1,15 @@
 -- What core and engine keep of themselves in every cycle, beside their pairing.
-use Rattle.std.proofs.Common.{◌≡◌, ◌≢◌, ◌<◌, ◌≤◌, ◌==◌, ◌&&◌, ◌||◌, ◌++◌, ◌+◌, ℕ, zero, suc, Bool, true, false, cond, not, List, [], ◌∷◌, map, filter, take, drop, length, Option, Some, None, refl, sym, ap, ◌∙◌, subst, arith}
-use Rattle.std.specs.Prelude.{find, is_some, is_none, nat_le, nat_lt, IfSome, IsSome, ⊤}
-use Rattle.std.proofs.lemmas.Bool.{eq-eqb, ne_eqb, eqb-true, false≢true}
+use Rattle.std.proofs.Common.{◌≡◌, ◌<◌, ◌≤◌, ◌==◌, ◌&&◌, ◌||◌, ◌++◌, ℕ, Bool, true, false, cond, not, List, [], ◌∷◌, map, Option, Some, None, refl, sym, ap, ◌∙◌, subst, arith}
+use Rattle.std.specs.Prelude.{find, is_some, nat_le, IfSome, ⊤}
+use Rattle.std.proofs.lemmas.Bool.{eqb-true, false≢true}
 use Rattle.xif_base.specs.declared.params.Params.{Params}
 use Rattle.coproc_config.specs.Set.{UnitTable}
 use Rattle.coproc_config.specs.Accept.{hit_of}
-use Rattle.inorder_machine.specs.declared.line.Write.{Write}
 use Rattle.inorder_machine.specs.declared.line.Stepped.{Stepped}
 use Rattle.inorder_machine.specs.declared.line.Stepped.TheVariants.{Retired, Stop}
 use Rattle.inorder_machine.specs.declared.stop.StopCause.{StopCause}
 use Rattle.inorder_machine.specs.declared.stop.StopCause.TheVariants.{Illegal}
 use Rattle.xif_signals.specs.declared.bus.Bus.{Bus}
-use Rattle.xif_session.specs.declared.fact.Response.{Response}
 use Rattle.xif_session.specs.Facts.{is_issued, is_given, is_taken, is_accepted, is_refused, response_on}
 use Rattle.cycle_spec.specs.declared.choices.Choices.{Choices}
 use Rattle.cycle_spec.specs.declared.choices.Executed.{Executed}
@@ -20,15 +18,15 @@ use Rattle.cycle_spec.specs.declared.entry.Entry.{Entry}
 use Rattle.cycle_spec.specs.declared.entry.EntryKind.{EntryKind}
 use Rattle.cycle_spec.specs.declared.entry.EntryKind.TheVariants.{Local, Unknown, Nowhere}
 use Rattle.cycle_spec.specs.declared.log.Cut.{Cut}
-use Rattle.cycle_spec.specs.Flight.{has_seq, holds_id, is_open, is_unknown, is_stopping, is_safe, with_response, with_sent, with_release, with_result, with_outcome, kind_at, stop_by, new_entry}
-use Rattle.cycle_spec.specs.Core.{response_on_offer, response_step, sent_on_present, sent_step, release_step, cut_step, drain_step, result_for, result_step, execute_step, retire_step, answered_entries, sent_entries, released_entries, kept_entries, finished_entries, executed_entries, settled_entries, with_dispatch, entry_at}
+use Rattle.cycle_spec.specs.Flight.{holds_id, is_open, is_stopping, is_safe, with_response, with_sent, with_release, with_result, with_outcome, kind_at, stop_by}
+use Rattle.cycle_spec.specs.Core.{response_on_offer, response_step, sent_on_present, sent_step, release_step, cut_step, drain_step, result_for, result_step, execute_step, retire_step, sent_entries, kept_entries, settled_entries, with_dispatch, entry_at}
 use Rattle.cycle_lists.specs.Lists.{Each, Pairs, FirstAt}
 use Rattle.cycle_lists.specs.Order.{Before}
-use Rattle.cycle_lists.proofs.Tests.{and-left, and-right, not-both, or-left, or-right, or-cases, not-in, false-or, and-both, le-in, le-out}
-use Rattle.cycle_lists.proofs.Every.{Each-from, Each-map, Each-map2, Each-take, Each-drop, Each-push, Each-at, Pairs-map, Pairs-map1, Pairs-take, Pairs-drop, Pairs-push, Pairs-both, each}
-use Rattle.cycle_paired.specs.Paired.{response_of, IsEntry, Behind}
+use Rattle.cycle_lists.proofs.Tests.{and-left, not-both, or-left, or-right, or-cases, and-both, le-in, le-out}
+use Rattle.cycle_lists.proofs.Every.{Each-map, Each-map2, Each-take, Each-drop, Each-push, Pairs-map, Pairs-map1, Pairs-take, Pairs-drop, Pairs-push, Pairs-both, each}
+use Rattle.cycle_paired.specs.Paired.{response_of, Behind}
 use Rattle.cycle_paired.proofs.Facts.{only, open-unsafe}
-use Rattle.pace_laws.proofs.Steps.{Goes, goes-same, goes-sent, goes-release, goes-result, goes-outcome}
+use Rattle.pace_laws.proofs.Steps.{Goes, goes-sent, goes-release, goes-result, goes-outcome}
 
 -- ---- one entry
 

@@ -1,24 +1,22 @@
 -- What a cycle does to the oldest entry where it doesn't retire.
-use Rattle.std.proofs.Common.{◌≡◌, ◌≢◌, ◌<◌, ◌≤◌, ◌==◌, ◌&&◌, ◌||◌, ◌++◌, ℕ, zero, suc, Bool, true, false, cond, not, List, [], ◌∷◌, map, take, drop, Option, Some, None, refl, sym, ap, ◌∙◌, subst, arith}
+use Rattle.std.proofs.Common.{◌≡◌, ◌≢◌, ◌<◌, ◌≤◌, ◌==◌, ◌&&◌, ◌||◌, ◌++◌, ℕ, zero, suc, Bool, true, false, cond, List, [], ◌∷◌, map, take, Option, Some, None, refl, sym, ap, ◌∙◌, arith}
 use Rattle.std.specs.Prelude.{find, is_some, nat_le, IfSome}
 use Rattle.std.proofs.lemmas.Bool.{eq-eqb, ne_eqb, le-leb}
 use Rattle.rv32_table.specs.Instr.{rd_field}
-use Rattle.inorder_machine.specs.declared.line.Retire.{Retire}
 use Rattle.inorder_machine.specs.Units.{unit_write}
 use Rattle.inorder_machine.specs.declared.line.Write.{Write}
 use Rattle.inorder_machine.specs.declared.line.Stepped.{Stepped}
 use Rattle.inorder_machine.specs.declared.line.Stepped.TheVariants.{Retired, Stop}
 use Rattle.xif_signals.specs.declared.bus.Bus.{Bus}
-use Rattle.xif_session.specs.declared.fact.Response.{Response}
 use Rattle.xif_session.specs.Facts.{is_issued, is_given, is_taken, is_accepted, response_on}
 use Rattle.cycle_spec.specs.declared.choices.Choices.{Choices}
 use Rattle.cycle_spec.specs.declared.choices.Executed.{Executed}
 use Rattle.cycle_spec.specs.declared.choices.Presented.{Presented}
 use Rattle.cycle_spec.specs.declared.entry.Entry.{Entry}
 use Rattle.cycle_spec.specs.declared.log.Cut.{Cut}
-use Rattle.cycle_spec.specs.Flight.{has_seq, holds_id, is_unknown, is_stopping, with_response, with_sent, with_release, with_result, with_outcome}
-use Rattle.cycle_spec.specs.Core.{response_on_offer, response_step, sent_on_present, sent_step, release_step, cut_step, drain_step, result_for, result_step, execute_step, retire_step, answered_entries, sent_entries, released_entries, kept_entries, finished_entries, executed_entries, settled_entries, with_dispatch}
-use Rattle.cycle_lists.proofs.Tests.{or-left, or-true, or-right}
+use Rattle.cycle_spec.specs.Flight.{has_seq, holds_id, is_stopping, with_response, with_sent, with_release, with_result, with_outcome}
+use Rattle.cycle_spec.specs.Core.{response_on_offer, response_step, sent_on_present, sent_step, release_step, cut_step, drain_step, result_for, result_step, execute_step, retire_step, kept_entries, settled_entries, with_dispatch}
+use Rattle.cycle_lists.proofs.Tests.{or-left, or-right}
 use Rattle.pace_laws.specs.Measure.{is_over}
 
 -- what the steps behind the answer leave of an entry

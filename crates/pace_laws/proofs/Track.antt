@@ -1,33 +1,30 @@
 -- The use of the oldest entry, before and after a cycle.
-use Rattle.std.proofs.Common.{◌≡◌, ◌≢◌, ◌<◌, ◌≤◌, ◌==◌, ◌&&◌, ◌||◌, ◌++◌, ◌+◌, ◌⊎◌, inl, inr, ℕ, Bool, true, false, cond, not, List, [], ◌∷◌, map, filter, length, Option, Some, None, refl, sym, ap, ◌∙◌, subst, arith, append_assoc}
-use Rattle.std.specs.Prelude.{find, is_some, is_none, IfSome, IsSome, ⊤}
+use Rattle.std.proofs.Common.{◌≡◌, ◌≢◌, ◌<◌, ◌==◌, ◌&&◌, ◌++◌, ◌⊎◌, inl, inr, ℕ, Bool, true, false, cond, not, List, [], ◌∷◌, filter, length, Option, Some, None, refl, sym, ap, ◌∙◌, subst, arith}
+use Rattle.std.specs.Prelude.{is_some, is_none, IfSome}
 use Rattle.std.specs.Option.{option_map_or}
-use Rattle.std.proofs.lemmas.Bool.{eq-eqb, ne_eqb, eqb-true, false≢true, true≢false}
-use Rattle.xif_base.specs.declared.params.Key.{Key}
+use Rattle.std.proofs.lemmas.Bool.{ne_eqb, false≢true}
 use Rattle.coproc_config.specs.Set.{UnitTable}
 use Rattle.xif_signals.specs.declared.bus.CpuIn.{CpuIn}
-use Rattle.xif_session.specs.Facts.{is_killed, is_released}
+use Rattle.xif_session.specs.Facts.{is_killed}
 use Rattle.cycle_spec.specs.declared.choices.Choices.{Choices}
 use Rattle.cycle_spec.specs.declared.entry.Entry.{Entry}
 use Rattle.cycle_spec.specs.declared.use_of.Use.{Use}
-use Rattle.cycle_spec.specs.Flight.{is_open, is_waiting, free_id}
+use Rattle.cycle_spec.specs.Flight.{is_open, free_id}
 use Rattle.cycle_spec.specs.State.{Engine}
-use Rattle.cycle_spec.specs.Core.{id_in, word_in, settled_entries}
-use Rattle.cycle_spec.specs.Engine.{has_key, issue_key, latest, start_of, starts, goes_on, started_uses, issue_start, with_end, engine_drive, offered_use, ended_uses, settled_uses, is_accepted, is_next, is_complete, has_operands, register_read_of, outcome_of, with_ready, ready_uses, ready_in_harts, writeback_of, use_or}
+use Rattle.cycle_spec.specs.Core.{id_in, word_in}
+use Rattle.cycle_spec.specs.Engine.{issue_key, latest, starts, goes_on, issue_start, engine_drive, ended_uses, is_accepted, is_next, is_complete, outcome_of, with_ready, ready_uses, ready_in_harts}
 use Rattle.cycle_spec.specs.Cycle.{Machines, hart_if}
 use Rattle.cycle_lists.specs.Lists.{Each, Pairs, FirstAt}
-use Rattle.cycle_lists.specs.Order.{Before}
-use Rattle.cycle_lists.proofs.Tests.{and-left, and-right, not-both, not-in, false-or}
-use Rattle.cycle_lists.proofs.Every.{Each-from, Each-append, Each-at, Pairs-older, Pairs-younger}
-use Rattle.cycle_paired.specs.Paired.{is_live, live_entries, is_live_use, live_uses, response_of, decision_of, Alike, Match, IsUse, Older, Offers, Paired}
+use Rattle.cycle_lists.proofs.Tests.{and-left, and-right, not-both}
+use Rattle.cycle_lists.proofs.Every.{Each-from, Each-append, Pairs-older, Pairs-younger}
+use Rattle.cycle_paired.specs.Paired.{is_live, live_entries, is_live_use, live_uses, Alike, Match, Older, Paired}
 use Rattle.cycle_paired.proofs.Carrying.{Carries}
-use Rattle.cycle_paired.proofs.Facts.{Joint, accepted-answered}
 use Rattle.cycle_paired.proofs.Matching.{found, latest-at}
 use Rattle.cycle_paired.proofs.Starting.{OffersWord, starting}
 use Rattle.cycle_paired.proofs.Cycling.{joint_of, cpu_for}
 use Rattle.pace_laws.specs.Measure.{key_of, start_in}
 use Rattle.pace_laws.proofs.Steps.{Leads}
-use Rattle.pace_laws.proofs.Uses.{Leaves, Closed, each-up, each-end, each-ready, IsKept}
+use Rattle.pace_laws.proofs.Uses.{each-up, each-end, each-ready}
 
 -- ---- the use of the oldest live entry
 

@@ -1,21 +1,20 @@
 -- What a cycle leaves of the engine's uses.
-use Rattle.std.proofs.Common.{◌≡◌, ◌≢◌, ◌<◌, ◌≤◌, ◌==◌, ◌&&◌, ◌||◌, ◌++◌, ◌+◌, ◌⊎◌, inl, inr, ℕ, Bool, true, false, cond, not, List, [], ◌∷◌, map, filter, Option, Some, None, refl, sym, ap, ◌∙◌, subst, arith}
-use Rattle.std.specs.Prelude.{find, is_some, is_none, IfSome, IsSome, ⊤}
-use Rattle.std.proofs.lemmas.Bool.{eq-eqb, ne_eqb, eqb-true, false≢true, true≢false}
-use Rattle.xif_base.specs.declared.params.Key.{Key}
+use Rattle.std.proofs.Common.{◌≡◌, ◌≢◌, ◌<◌, ◌==◌, ◌&&◌, ◌+◌, ℕ, Bool, true, false, cond, not, List, [], ◌∷◌, map, filter, Option, Some, None, refl, sym, ap, ◌∙◌, subst, arith}
+use Rattle.std.specs.Prelude.{is_some, IfSome, IsSome}
+use Rattle.std.proofs.lemmas.Bool.{eqb-true}
 use Rattle.coproc_config.specs.Set.{UnitTable}
 use Rattle.coproc_config.specs.declared.accept.Hit.{Hit}
 use Rattle.xif_signals.specs.declared.bus.CpuOut.{CpuOut}
 use Rattle.xif_signals.specs.declared.bus.CopOut.{CopOut}
 use Rattle.xif_signals.specs.declared.bus.CpuIn.{CpuIn}
-use Rattle.xif_session.specs.Facts.{is_killed, is_undecided as is_decision_open}
+use Rattle.xif_session.specs.Facts.{is_undecided as is_decision_open}
 use Rattle.cycle_spec.specs.declared.use_of.Use.{Use}
 use Rattle.cycle_spec.specs.State.{Engine}
-use Rattle.cycle_spec.specs.Engine.{has_key, issue_key, register_key, commit_key, latest, new_use, start_step, started_uses, starts, with_answer, answer_step, with_operands, given_to, given_step, lanes_on, with_decision, decided_by, decide_step, with_end, ended, end_step, issue_start, offered_hit, answered_uses, given_uses, decided_uses, ended_uses, offered_use, settled_uses, is_accepted, is_next, is_complete, outcome_of, with_ready, ready_uses, ready_in_harts}
+use Rattle.cycle_spec.specs.Engine.{has_key, issue_key, register_key, commit_key, latest, new_use, start_step, started_uses, starts, with_answer, answer_step, with_operands, given_to, given_step, lanes_on, with_decision, decided_by, decide_step, with_end, ended, end_step, issue_start, offered_hit, answered_uses, given_uses, decided_uses, ended_uses, offered_use, settled_uses, is_next, is_complete, outcome_of, with_ready, ready_uses, ready_in_harts}
 use Rattle.cycle_lists.specs.Lists.{Each, Pairs}
-use Rattle.cycle_lists.proofs.Tests.{and-left, and-right, not-both, or-cases, not-in}
+use Rattle.cycle_lists.proofs.Tests.{or-cases}
 use Rattle.cycle_lists.proofs.Every.{Each-from, Each-map, Each-map2, Each-filter, Each-push, Each-append, Each-at}
-use Rattle.cycle_paired.specs.Paired.{IsUse, Older, Paired}
+use Rattle.cycle_paired.specs.Paired.{Older}
 use Rattle.cycle_paired.proofs.Carrying.{Carries}
 use Rattle.cycle_paired.proofs.Facts.{other-starts}
 

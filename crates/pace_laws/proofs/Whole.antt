@@ -1,26 +1,24 @@
 -- Whole runs: how many cycles they take for what they retire, and that a drain is empty in time.
-use Rattle.std.proofs.Common.{◌≡◌, ◌≢◌, ◌<◌, ◌≤◌, ◌==◌, ◌&&◌, ◌||◌, ◌++◌, ◌+◌, ◌-◌, ◌*◌, ◌/◌, ◌⊎◌, inl, inr, ℕ, zero, suc, Bool, true, false, cond, not, List, [], ◌∷◌, length, Option, Some, None, refl, sym, ap, ◌∙◌, subst, arith}
-use Rattle.std.specs.Prelude.{is_some, IsSome, reverse}
+use Rattle.std.proofs.Common.{◌≡◌, ◌<◌, ◌≤◌, ◌||◌, ◌+◌, ◌*◌, ◌/◌, ◌⊎◌, inl, inr, ℕ, zero, suc, Bool, true, false, cond, List, [], ◌∷◌, length, Option, Some, None, refl, sym, ap, ◌∙◌, subst, arith}
+use Rattle.std.specs.Prelude.{is_some, reverse}
 use Rattle.std.specs.Option.{option_or, option_map}
 use Rattle.std.specs.List.{filter_map}
 use Rattle.std.proofs.lemmas.Bool.{false≢true, true≢false}
 use Rattle.std.proofs.lemmas.List.{length-append, length-reverse, reverse-append}
 use Rattle.std.proofs.lemmas.List.Elements.{filter_map-append}
 use Rattle.std.proofs.Math.Nat.{add-mul, one-mul, suc-mul, mul-le-mul_right, div-lt_iff_lt-mul}
-use Rattle.inorder_machine.specs.declared.line.Retire.{Retire}
 use Rattle.inorder_machine.specs.declared.stop.StopCause.{StopCause}
 use Rattle.xif_drive.specs.Scripts.{largest_of}
 use Rattle.cycle_spec.specs.declared.choices.Mode.{Mode}
 use Rattle.cycle_spec.specs.declared.choices.Mode.TheVariants.{Running, DrainBegins, Draining}
 use Rattle.cycle_spec.specs.declared.entry.Entry.{Entry}
 use Rattle.cycle_spec.specs.declared.log.CycleLog.{CycleLog}
-use Rattle.cycle_spec.specs.declared.log.End.{End}
 use Rattle.cycle_spec.specs.declared.log.End.TheVariants.{Stopped, Budget}
 use Rattle.cycle_spec.specs.State.{Core}
 use Rattle.cycle_spec.specs.Choices.{choices}
 use Rattle.cycle_spec.specs.Core.{line_of, mode_after}
 use Rattle.cycle_spec.specs.Cycle.{Machines, cycle, log_at}
-use Rattle.cycle_spec.specs.Run.{Setup, Meaning, Progress, start, next, new_machines, unless, cycles_until, is_stopped, has_no_entry, is_empty, drain_limit, with_drain, drained, progress_of, end_by, run_after, run_of}
+use Rattle.cycle_spec.specs.Run.{Setup, Meaning, Progress, start, next, unless, cycles_until, is_stopped, has_no_entry, is_empty, drain_limit, with_drain, drained, progress_of, end_by, run_of}
 use Rattle.cycle_paired.specs.Paired.{Paired}
 use Rattle.cycle_paired.proofs.Always.{start-paired, drain-paired}
 use Rattle.cycle_paired.proofs.Closing.{cycle-paired}
