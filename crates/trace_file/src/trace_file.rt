@@ -88,7 +88,12 @@ impl TraceFile {
     }
 
     /// Ends the text behind the cycles so far.
-    pub fn end<S: Shelf>(&mut self, alloc: Global, shelf: &mut S, name: &str) -> Result<(), WriteFail>
+    pub fn end<S: Shelf>(
+        &mut self,
+        alloc: Global,
+        shelf: &mut S,
+        name: &str,
+    ) -> Result<(), WriteFail>
         ensures whole { OnOk result ((before : Option Files) → (buses : List Bus) →
             IsTracing before (S.files shelf.old) name.now self.old buses
             → IsWritten before (S.files shelf.new) name.now

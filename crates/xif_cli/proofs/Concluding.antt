@@ -208,7 +208,7 @@ module _ {S O : Type 0} {files : S → Option Files} {fetch_faults write_faults 
       let same_writes = ends.only_reads.same_writes in
       let says = ends.only_reads.counts.stays_faultless in
       let later : IsFaulted (faultless mid) (write_faults mid) (write_faults new) → IsFaulted (faultless old) (write_faults old) (write_faults new) =
-          λ fault. (subst (λ n. Rose n (write_faults new)) same_writes fault.0, λ said. fault.1 (says said)) in
+      λ fault. (subst (λ n. Rose n (write_faults new)) same_writes fault.0, λ said. fault.1 (says said)) in
       let fetched : fetch_faults mid ≡ fetch_faults old = elim ends.uncounted [ inl same ↦ same | inr fault ↦ absurd (not_both answer (ReadFault fault.0) fault.1) ] in
       record {
         output = λ end e m told. record {

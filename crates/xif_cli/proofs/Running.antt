@@ -15,7 +15,6 @@ use Rattle.xif_cli.specs.Outcome.{Answer, end_status, run_answer}
 use Rattle.xif_cli.specs.Reading.{can_refuse_job, can_refuse_image}
 use Rattle.xif_cli.specs.Words as form
 
-
 is_target : (A B : Type 0) (name : List ℕ) (w : Which) → IsFaultedAt A B w → IsTrue (writes (form.Run name) w)
 is_target A B name which.Trace a = refl
 is_target A B name which.Log a = refl

@@ -38,14 +38,17 @@ left-of whole rest t before after stops = elim stops [
   | inl same ↦ (written whole before, (same, record { whole = whole; target = t; rest = rest; split = refl; which = refl; left = inl refl }))
   | inr part ↦ (
     map.insert (written whole before) t.name (take part.count t.text),
-    (part.by_front, record {
-      whole = whole;
-      target = t;
-      rest = rest;
-      split = refl;
-      which = refl;
-      left = inr (record { count = part.count; within = part.within; by_front = refl });
-    }),
+    (
+      part.by_front,
+      record {
+        whole = whole;
+        target = t;
+        rest = rest;
+        split = refl;
+        which = refl;
+        left = inr (record { count = part.count; within = part.within; by_front = refl });
+      },
+    ),
   )
 ]
 
@@ -177,9 +180,9 @@ module _ {S : Type 0} {files : S → Option Files} {fetch_faults write_faults : 
       → WritesRun files fetch_faults write_faults faultless old new (targets_of job (run_by job.predictor (setup_of job image))) (simulated_report (run_by job.predictor (setup_of job image)) (step_start job image).memory.bytes) r
   writes-by old new job image setup trace log run r same is_trace is_log by w =
       let targets : trace_and_log setup.params trace log run ≡ targets_of job (run_by job.predictor (setup_of job image)) =
-          λ i. trace_and_log (same i).params (is_trace i) (is_log i) (by i) in
+      λ i. trace_and_log (same i).params (is_trace i) (is_log i) (by i) in
       let report : simulated_report run setup.memory.bytes ≡ simulated_report (run_by job.predictor (setup_of job image)) (step_start job image).memory.bytes =
-          λ i. simulated_report (by i) (same i).memory.bytes in
+      λ i. simulated_report (by i) (same i).memory.bytes in
       subst (λ t. WritesRun files fetch_faults write_faults faultless old new t (simulated_report (run_by job.predictor (setup_of job image)) (step_start job image).memory.bytes) r) targets
       (subst (λ t. WritesRun files fetch_faults write_faults faultless old new (trace_and_log setup.params trace log run) t r) report w)
 

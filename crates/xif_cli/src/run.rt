@@ -86,7 +86,13 @@ fn deliver<S: Shelf, O: Out>(
         (run_answer job.now image.now) result }
 {
     match write_run(alloc, job, image, shelf) {
-        Ok(text) => print_answer(&Answer { end: End::Done, text }, out),
+        Ok(text) => print_answer(
+            &Answer {
+                end: End::Done,
+                text,
+            },
+            out,
+        ),
         Err(stop) => stop.status(),
     }
 }

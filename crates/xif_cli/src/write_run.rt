@@ -117,7 +117,10 @@ fn write_with<S: Shelf, P: Predictor>(
 {
     match run_traced(alloc, setup, predictor, shelf, trace) {
         Ok(traced) => write_log(alloc, &traced, setup.memory.bytes(), log, shelf),
-        Err(fail) => Err(Stop { which: Which::Trace, fail }),
+        Err(fail) => Err(Stop {
+            which: Which::Trace,
+            fail,
+        }),
     }
 }
 
@@ -146,10 +149,16 @@ fn write_log<S: Shelf>(
         shelf.old shelf.new stop.fail) }
 {
     let Ok(report) = simulated_report(alloc, &traced.simulation, traced.counts, before) else {
-        return Err(Stop { which: Which::Log, fail: WriteFail::NoMemory });
+        return Err(Stop {
+            which: Which::Log,
+            fail: WriteFail::NoMemory,
+        });
     };
     match write_file(shelf, name, traced.log.as_bytes()) {
         Ok(()) => Ok(report),
-        Err(fail) => Err(Stop { which: Which::Log, fail }),
+        Err(fail) => Err(Stop {
+            which: Which::Log,
+            fail,
+        }),
     }
 }
