@@ -3,12 +3,12 @@ _xif() {
   local word=${COMP_WORDS[COMP_CWORD]} pattern=
   COMPREPLY=()
   if [ "$COMP_CWORD" = 1 ]; then
-    mapfile -t COMPREPLY < <(compgen -W 'raw step judge' -- "$word")
+    mapfile -t COMPREPLY < <(compgen -W 'raw step run judge gen' -- "$word")
     return
   fi
   case ${COMP_WORDS[1]}$COMP_CWORD in
     raw2) pattern=bin ;;
-    step2 | judge2) pattern=toml ;;
+    step2 | run2 | judge2) pattern=toml ;;
     judge3) pattern=vcd ;;
     *) return ;;
   esac

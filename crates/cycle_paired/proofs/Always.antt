@@ -1,4 +1,4 @@
--- Core and engine are paired in every state that they come to.
+-- Core and engine are paired in every state that they reach.
 use Rattle.std.proofs.Common.{◌≡◌, ◌<◌, ℕ, false, List, [], ◌∷◌, None, refl, sym, ap, ◌∙◌, subst}
 use Rattle.std.specs.Prelude.{IfSome}
 use Rattle.cycle_spec.specs.declared.entry.Entry.{Entry}
@@ -27,7 +27,7 @@ start-paired hart s = record {
   params = refl;
 }
 
-pub drain-paired : (hart : ℕ) (m : Machines) → Paired hart m → Paired hart (begins_drain m)
+abbrev pub drain-paired : (hart : ℕ) (m : Machines) → Paired hart m → Paired hart (begins_drain m)
 drain-paired hart m p = record {
   answered = p.answered;
   order = record { pairs = p.order.pairs; below = p.order.below };
@@ -42,7 +42,7 @@ drain-paired hart m p = record {
   params = p.params;
 }
 
-pub resumed-paired : (hart : ℕ) (m : Machines) → Paired hart m → Paired hart (resumes m)
+abbrev pub resumed-paired : (hart : ℕ) (m : Machines) → Paired hart m → Paired hart (resumes m)
 resumed-paired hart m p = record {
   answered = p.answered;
   order = record { pairs = p.order.pairs; below = p.order.below };

@@ -1,12 +1,12 @@
 -- The answer to the word that is offered, on both sides.
-use Rattle.std.proofs.Common.{◌≡◌, ◌≢◌, ◌<◌, ◌==◌, ◌&&◌, ◌++◌, ℕ, Bool, true, false, cond, not, List, [], ◌∷◌, map, Option, Some, refl, sym, ap, ◌∙◌, subst, arith, append-nil}
+use Rattle.std.proofs.Common.{◌≡◌, ◌≢◌, ◌<◌, ◌==◌, ◌&&◌, ◌++◌, ℕ, Bool, true, false, cond, not, List, [], ◌∷◌, map, Option, Some, None, refl, sym, ap, ◌∙◌, subst, arith, append-nil}
 use Rattle.std.specs.Prelude.{is_some, IsSome}
 use Rattle.std.proofs.lemmas.Bool.{eq-eqb, ne_eqb}
 use Rattle.coproc_config.specs.declared.accept.Hit.{Hit}
 use Rattle.inorder_machine.specs.declared.stop.StopCause.TheVariants.{Illegal}
 use Rattle.xif_session.specs.declared.fact.Response.{Response}
 use Rattle.xif_session.specs.declared.fact.Decision.TheVariants.{Undecided}
-use Rattle.xif_session.specs.Facts.{is_killed}
+use Rattle.xif_session.specs.Facts.{is_refused, is_killed}
 use Rattle.cycle_spec.specs.declared.entry.Entry.{Entry}
 use Rattle.cycle_spec.specs.declared.use_of.Use.{Use}
 use Rattle.cycle_spec.specs.Flight.{is_open, is_safe, is_stopping, with_response}
@@ -19,7 +19,7 @@ use Rattle.cycle_lists.proofs.Filters.{filter-at, filter-past, filter-none, filt
 use Rattle.cycle_lists.proofs.Places.{map-at}
 use Rattle.cycle_lists.proofs.Order.{mapped, leaves-response}
 use Rattle.cycle_paired.specs.Paired.{is_live, live_entries, is_live_use, live_uses, response_of, decision_of, Alike, Match, IsEntry, Behind, IsUnanswered, IsUse, Older}
-use Rattle.cycle_paired.proofs.Facts.{Joint, open-unknown, open-dead, open-undone, open-unsafe, open-unreleased, some-closed, behind-open, other-numbers}
+use Rattle.cycle_paired.proofs.Facts.{Joint, open-unknown, open-none, open-dead, open-undone, open-unsafe, open-unreleased, some-closed, behind-open, other-numbers}
 use Rattle.cycle_paired.proofs.Matching.{Match-append, change-use}
 
 -- ---- the starts that had their handshake
@@ -115,8 +115,17 @@ entry-answered x p ok o = record {
   unsent = λ h. absurd (not-both (is_open (with_answered x p)) (some-closed (with_answered x p) refl) h);
   stores = ok.stores;
   stops = λ h. stopping (not x.accept) (ok.stops h);
+  refused = λ u h. by-answer x.accept h;
 }
   where
+    none-not_refused : (r : Option Response) → is_some r ≡ false → is_refused r ≡ false
+    none-not_refused None h = refl
+    none-not_refused (Some r) h = cc
+
+    by-answer : (t : Bool) → is_some (cond (not t) (Some Illegal) p.stop) ≡ true → not t ≡ true
+    by-answer true h = absurd (not-both (is_refused p.response) (none-not_refused p.response (open-none p o)) (ok.refused (open-unknown p o) h))
+    by-answer false h = refl
+
     stopping : (t : Bool) → is_stopping p ≡ true → is_some (cond t (Some Illegal) p.stop) ≡ true
     stopping true h = refl
     stopping false h = h

@@ -53,12 +53,13 @@ pub record Carries (u : Use) (us : List Use) : Type 0 where
   pub start : carried.start ≡ u.start
   pub key : carried.key ≡ u.key
   pub word : carried.word ≡ u.word
+  pub hit : carried.hit ≡ u.hit
   pub result : carried.result ≡ u.result
   pub ready : IsSome carried.ready
   pub unfinished : carried.finished ≡ false
 
-pub carries-map : (u : Use) (f : Use → Use) (us : List Use) → LeavesUse f → Carries u us → Carries u (map f us)
-carries-map u f us l c = record {
+pub carries-map : (u : Use) (f : Use → Use) (us : List Use) → LeavesUse f → (c : Carries u us) → (f c.carried).hit ≡ c.carried.hit → Carries u (map f us)
+carries-map u f us l c h = record {
   front = map f c.front;
   carried = f c.carried;
   back = map f c.back;
@@ -66,6 +67,7 @@ carries-map u f us l c = record {
   start = l.start c.carried ∙ c.start;
   key = l.key c.carried ∙ c.key;
   word = l.word c.carried ∙ c.word;
+  hit = h ∙ c.hit;
   result = l.result c.carried ∙ c.result;
   ready = ap is_some (l.ready c.carried) ∙ c.ready;
   unfinished = l.finished c.carried ∙ c.unfinished;
@@ -80,6 +82,7 @@ carries-filter u test us c k = record {
   start = c.start;
   key = c.key;
   word = c.word;
+  hit = c.hit;
   result = c.result;
   ready = c.ready;
   unfinished = c.unfinished;
@@ -94,6 +97,7 @@ carries-push u us vs c = record {
   start = c.start;
   key = c.key;
   word = c.word;
+  hit = c.hit;
   result = c.result;
   ready = c.ready;
   unfinished = c.unfinished;

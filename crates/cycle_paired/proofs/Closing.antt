@@ -36,7 +36,7 @@ entries-are hart e ch input es =
     settled-is ch (bus_for hart e ch input) (answers e hart ch) (response_of (response_hit e (cpu_for hart ch))) (gives e hart ch) (is_some (offered_use e) && input.result_ready)
     (use_or (offered_use e)).key.id (writeback_of (use_or (offered_use e)).hit) (use_or (offered_use e)).result es refl refl refl (record { taken = refl; id_is = refl; we_is = refl; data_is = refl })
 
-after-paired : (hart : ℕ) (answer : ℕ → ℕ → ℕ) (m : Machines) (ch : Choices) (input : CpuIn) → Paired hart m → Sound m.core.params.split m.core.flight ch → Paired hart (both_after hart answer m ch input)
+pub after-paired : (hart : ℕ) (answer : ℕ → ℕ → ℕ) (m : Machines) (ch : Choices) (input : CpuIn) → Paired hart m → Sound m.core.params.split m.core.flight ch → Paired hart (both_after hart answer m ch input)
 after-paired hart answer m ch input k so =
     let w = m.core in
     let e = m.engine in

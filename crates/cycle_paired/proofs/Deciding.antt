@@ -49,7 +49,7 @@ carries-decided kill None u us c = c
 carries-decided kill (Some v) u us c = go (is_decision_open v.decision)
   where
     go : (b : Bool) → Carries u (cond b (map (with_decision kill v) us) us)
-    go true = carries-map u (with_decision kill v) us (leaves-decision kill v) c
+    go true = carries-map u (with_decision kill v) us (leaves-decision kill v) c refl
     go false = c
 
 -- ---- what the entries leave

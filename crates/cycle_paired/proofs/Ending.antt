@@ -10,7 +10,7 @@ use Rattle.cycle_spec.specs.declared.entry.Entry.{Entry}
 use Rattle.cycle_spec.specs.declared.entry.EntryKind.{EntryKind}
 use Rattle.cycle_spec.specs.declared.entry.EntryKind.TheVariants.{Local, Unknown, Nowhere}
 use Rattle.cycle_spec.specs.declared.use_of.Use.{Use}
-use Rattle.cycle_spec.specs.Flight.{is_row, is_open, stop_row, stop_by, kind_at}
+use Rattle.cycle_spec.specs.Flight.{is_unknown_kind, is_row, is_open, stop_row, stop_by, kind_at}
 use Rattle.cycle_spec.specs.Core.{entry_at}
 use Rattle.cycle_lists.specs.Lists.{Each, Pairs}
 use Rattle.cycle_lists.proofs.Tests.{not-both, false-or}
@@ -68,7 +68,13 @@ entry-new answer n id pc word = record {
   unsent = λ h. refl;
   stores = λ h. cc;
   stops = λ h. stops-kind (kind_at word) h;
+  refused = λ u h. runs (kind_at word) u h;
 }
+  where
+    runs : (k : EntryKind) → is_unknown_kind k ≡ true → is_some (stop_by k) ≡ true → false ≡ true
+    runs (Local i) u h = u
+    runs Unknown u h = h
+    runs Nowhere u h = u
 
 pub record Dispatched (hart : ℕ) (answered : ℕ → Bool) (es : List Entry) (us : List Use) : Type 0 where
   pub entries : Each IsEntry es

@@ -136,6 +136,7 @@ entry-outcome s o e x ok = by-number IsEntry s o e ok retires stops
           unsent = ok.unsent;
           stores = λ z. ap (λ i. is_row is_store_row i) k.kind_is ∙ stores-only (row_line k.instr.row).meaning k.memory k.at_word k.instr k.a k.b line (sym k.is_it ∙ h) z;
           stops = ok.stops;
+          refused = ok.refused;
         }
 
     stops : e.seq ≡ s → (cause : StopCause) → o ≡ Stop cause → IsEntry (stop-by true cause e)
@@ -147,6 +148,7 @@ entry-outcome s o e x ok = by-number IsEntry s o e ok retires stops
       unsent = ok.unsent;
       stores = ok.stores;
       stops = λ z. refl;
+      refused = λ u z. absurd (not-unknown e (x q).instr (x q).kind_is u);
     }
 
 -- what was safe before stays safe

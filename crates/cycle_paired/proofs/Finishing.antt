@@ -76,6 +76,7 @@ entry-finished w hart e u ok l a r = record {
   unsent = λ h. absurd (not-both (is_open e) (live-closed e l) h);
   stores = ok.stores;
   stops = ok.stops;
+  refused = ok.refused;
 }
 
 pub other-id : (id : ℕ) (x e : Entry) → Before x e → is_unknown e ≡ true → e.id ≡ id → holds_id id x ≡ false
@@ -97,6 +98,7 @@ pub record Finished (hart n id c : ℕ) (answered : ℕ → Bool) (u : Use) (es 
   pub live_is : is_live entry ≡ true
   pub hart_is : u.key.hart ≡ hart
   pub word_is : entry.word ≡ u.word
+  pub hit_is : partner.hit ≡ u.hit
   pub result_is : partner.result ≡ u.result
   pub joint : (w : Write) → Joint hart n id c answered (map (with_result entry.seq w) es) (map (with_end u.start) us)
 
@@ -134,6 +136,7 @@ finishing hart n id c answered u es us k j =
       live_is = l;
       hart_is = ap (λ q. q.hart) (sym k.key) ∙ d.alike.hart_is;
       word_is = sym d.alike.word ∙ k.word;
+      hit_is = k.hit;
       result_is = k.result;
       joint = λ w.
           let q = finished w p in

@@ -61,6 +61,7 @@ carried-at None delays cycle us u h e =
       start = refl;
       key = refl;
       word = refl;
+      hit = refl;
       result = refl;
       ready = past-some (delay_of delays u.order) cycle u.ready (and-right (not u.finished) (is_past_ready (delay_of delays u.order) cycle u.ready) f.passes);
       unfinished = not-in u.finished (and-left (not u.finished) (is_past_ready (delay_of delays u.order) cycle u.ready) f.passes);
@@ -69,7 +70,7 @@ carried-at (Some s) delays cycle us u h e =
     let f = first-at (has_start s) us u e in
     let q : u.start ≡ s = eqb-true u.start s f.passes in
     let k = Each-at (HasResult s) us f.older u f.younger f.here h in
-    record { front = f.older; carried = u; back = f.younger; here = f.here; start = refl; key = refl; word = refl; result = refl; ready = k.ready q; unfinished = k.unfinished q }
+    record { front = f.older; carried = u; back = f.younger; here = f.here; start = refl; key = refl; word = refl; hit = refl; result = refl; ready = k.ready q; unfinished = k.unfinished q }
 
 -- the only use of its start is the carried one
 results-of : (u : Use) (us : List Use) (k : Carries u us) → Pairs Older us → Each (HasResult u.start) us

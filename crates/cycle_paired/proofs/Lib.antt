@@ -19,3 +19,6 @@ pub mod Cycling
 pub mod Same
 pub mod Closing
 pub mod Always
+pub mod Fixed
+pub mod Agreeing
+pub mod Stopping

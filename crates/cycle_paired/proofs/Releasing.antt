@@ -59,6 +59,7 @@ entry-released s e ok = record {
   unsent = ok.unsent;
   stores = ok.stores;
   stops = ok.stops;
+  refused = ok.refused;
 }
 
 -- what is older than the released one is safe

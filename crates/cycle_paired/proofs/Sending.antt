@@ -64,6 +64,7 @@ entry-sent e ok n = record {
   unsent = λ h. absurd (not-both (is_open e) n h);
   stores = ok.stores;
   stops = ok.stops;
+  refused = ok.refused;
 }
 
 use-given : (lanes : List ℕ) (answered : ℕ → Bool) (u : Use) → IsUse answered u → answered u.start ≡ true → IsUse answered (given lanes u)

@@ -1,5 +1,5 @@
 -- The use of the word that is offered: its transaction goes on, or it starts.
-use Rattle.std.proofs.Common.{◌≡◌, ◌<◌, ◌≤◌, ◌==◌, ◌&&◌, ◌+◌, ◌++◌, ℕ, Bool, true, false, not, List, [], ◌∷◌, filter, Option, Some, None, refl, sym, ap, ◌∙◌, subst, arith, append-nil}
+use Rattle.std.proofs.Common.{◌≡◌, ◌≢◌, ◌<◌, ◌≤◌, ◌==◌, ◌&&◌, ◌+◌, ◌++◌, ℕ, Bool, true, false, not, List, [], ◌∷◌, filter, Option, Some, None, refl, sym, ap, ◌∙◌, subst, arith, append-nil}
 use Rattle.std.specs.Prelude.{IsSome, IfSome}
 use Rattle.std.proofs.lemmas.Bool.{eqb-true}
 use Rattle.xif_signals.specs.declared.bus.CpuOut.{CpuOut}
@@ -14,7 +14,7 @@ use Rattle.cycle_spec.specs.Engine.{has_key, has_start, is_accepted, issue_key, 
 use Rattle.cycle_lists.specs.Lists.{Each, Pairs, FirstAt}
 use Rattle.cycle_lists.specs.Order.{Before}
 use Rattle.cycle_lists.proofs.Tests.{and-left, and-right, not-both, not-in, not-out}
-use Rattle.cycle_lists.proofs.Every.{Each-front, Each-back, Each-from, Each-both, Each-filter, Each-passed, Each-at, Each-here, Each-unfilter, Pairs-filter, Pairs-front, Pairs-older, Pairs-younger}
+use Rattle.cycle_lists.proofs.Every.{Each-front, Each-back, Each-append, Each-from, Each-both, Each-filter, Each-passed, Each-at, Each-here, Each-unfilter, Pairs-filter, Pairs-front, Pairs-older, Pairs-younger}
 use Rattle.cycle_lists.proofs.Filters.{filter-all, filter-past, filter-swap}
 use Rattle.cycle_lists.proofs.Places.{any-at}
 use Rattle.cycle_paired.specs.Paired.{live_entries, is_live_use, live_uses, Match, IsEntry, IsUnanswered, IsUse, Older, Offers}
@@ -41,6 +41,7 @@ pub record Started (hart n id c : ℕ) (answered : ℕ → Bool) (waiting : Opti
   pub id_is : new.key.id ≡ p.id
   pub word_is : new.word ≡ p.word
   pub carries : (u : Use) → Carries u us → Carries u (started_in waiting cpu c us)
+  pub apart : (u : Use) → Carries u us → u.start ≢ new.start
 
 -- the signals of the issue channel
 pub record OffersWord (hart : ℕ) (cpu : CpuOut) (p : Entry) : Type 0 where
@@ -65,6 +66,13 @@ none-behind u (v ∷ us) s h o k = let r = o.0.rises in let l = k.0 in absurd (o
 abbrev second : Option (ℕ × ℕ) → ℕ
 second None = 0
 second (Some k) = k.1
+
+-- a use with its result isn't the new one
+other-ready : (front : List Use) (new : Use) (us : List Use) → us ≡ front ++ new ∷ [] → Each (λ x. Older x new) front → (IsSome new.ready → ⊥) → (v : Use) → Carries v us → v.start ≡ new.start → ⊥
+other-ready front new us here before unready v k q =
+    let P = λ (x : Use). x.start ≡ new.start → IsSome x.ready → ⊥ in
+    let all : Each P us = subst (Each P) (sym here) (Each-append P front (new ∷ []) (Each-from (λ x. Older x new) P front (λ x o e r. let l = o.rises in absurd (omega (arith, l, e))) before) ((λ e r. unready r), tt)) in
+    Each-at P us k.front k.carried k.back k.here all (k.start ∙ q) k.ready
 
 -- ---- the transaction goes on
 
@@ -115,6 +123,7 @@ continued hart n id c answered t cpu es p us w f o j e =
       id_is = id_is;
       word_is = ap second (sym (own.offered hart_is alive) ∙ open_word-first es p f);
       carries = λ v k. subst (Carries v) (sym same) k;
+      apart = λ v k q. other-ready a.front u us here (Pairs-older Older a.front u a.back pairs) (λ r. not-both (is_accepted u) fresh.refused (ok.ready r).accepted) v k q;
     }
 
 -- ---- a use starts
@@ -159,6 +168,7 @@ begun hart n id c answered waiting cpu es p us w j other e =
       id_is = w.id_is;
       word_is = w.word_is;
       carries = λ v k. subst (Carries v) (sym here) (carries-push v vs (new ∷ []) (carries-filter v q us k (kept v k)));
+      apart = λ v k z. let l = Each-at (λ u. u.start < c) us k.front k.carried k.back k.here j.below in let s = k.start in absurd (omega (arith, l, s, z));
     }
   where
     kept : (v : Use) (k : Carries v us) → not (has_key (issue_key cpu) k.carried) ≡ true

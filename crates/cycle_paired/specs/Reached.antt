@@ -1,4 +1,4 @@
--- The states that core and engine come to.
+-- The states that core and engine reach.
 use Rattle.std.specs.Prelude.{◌≡◌, ℕ, None}
 use Rattle.cycle_spec.specs.Choices.{choices}
 use Rattle.cycle_spec.specs.Core.{drain_begun, resumed}

@@ -1,26 +1,24 @@
 -- The accumulators, ready cycles and results after a cycle are those that the history tells.
-use Rattle.std.proofs.Common.{if◌then◌else◌, ◌≡◌, ◌⊎◌, inl, inr, ◌++◌, ◌+◌, ◌==◌, ◌<◌, ◌&&◌, ◌||◌, not, ℕ, Bool, true, false, Option, Some, None, IfSome, List, [], ◌∷◌, map, length, refl, sym, ap, ap₂, ◌∙◌, subst, arith}
-use Rattle.std.specs.Prelude.{is_none, is_some, slice_index_or}
-use Rattle.std.specs.Option.{option_map, option_map_or}
-use Rattle.std.proofs.lemmas.Bool.{eqb-true, eq-eqb, ne_eqb}
+use Rattle.std.proofs.Common.{if◌then◌else◌, ◌≡◌, ◌++◌, ◌==◌, ◌&&◌, not, ℕ, Bool, true, false, Option, Some, None, IfSome, List, [], ◌∷◌, refl, sym, ap, ap₂, ◌∙◌, subst}
+use Rattle.std.specs.Prelude.{is_none, is_some}
+use Rattle.std.specs.Option.{option_map_or}
+use Rattle.std.proofs.lemmas.Bool.{eqb-true}
 use Rattle.xif_base.specs.declared.params.Key.{Key}
 use Rattle.xif_base.specs.declared.params.Params.{Params}
 use Rattle.xif_base.specs.Params.{IsInRange}
-use Rattle.coproc_config.specs.declared.accept.Hit.{Hit}
 use Rattle.coproc_config.specs.Set.{UnitTable}
 use Rattle.coproc_config.specs.Accept.{hit_of}
 use Rattle.coproc_config.specs.Apply.{Outcome}
-use Rattle.xif_session.specs.Facts.{same_key}
-use Rattle.xif_session.proofs.Options.{both-true, and-true, no_true}
+use Rattle.xif_session.proofs.Options.{both-true, no_true}
 use Rattle.cycle_spec.specs.declared.use_of.Use.{Use}
-use Rattle.cycle_spec.specs.Engine.{register_read_of, is_complete, is_next, outcome_by, outcome_of, with_ready, units_behind, ready_in_harts}
-use Rattle.engine_history.specs.Lives.{Life, Answer, Operands, Verdict, is_accepted, is_killed, is_released}
-use Rattle.engine_history.specs.Told.{hit_by, hit_told, use_told, others, latest_uses, later, reads, complete_cycle, counts, all_complete, ready_cycle, is_ready, outcome_told, units_told, result_told, whole_use, whole_uses}
-use Rattle.engine_history.proofs.Settle.{waits_in, blocked, is_due, ready_one, push_units, push_at, Passed, drop_blocked, drop_units, drop_harts}
-use Rattle.engine_history.proofs.Grown.{Comes, Grew, Old, Each2, Grown, IsLater, later_is, later_some, Same, complete_same, complete_stays}
-use Rattle.engine_history.proofs.Ready.{Decided, Grouped, IsBy, AllBy, counted, IsReady, ready_is, complete_released, ready_stays, ready_comes}
+use Rattle.cycle_spec.specs.Engine.{register_read_of, is_complete, is_next, outcome_by, outcome_of, with_ready, units_behind}
+use Rattle.engine_history.specs.Lives.{Life, Answer, Operands, is_accepted, is_killed}
+use Rattle.engine_history.specs.Told.{hit_told, use_told, others, latest_uses, later, reads, complete_cycle, counts, all_complete, ready_cycle, is_ready, outcome_told, units_told, result_told}
+use Rattle.engine_history.proofs.Settle.{is_due, ready_one, push_units, Passed, drop_blocked, drop_units}
+use Rattle.engine_history.proofs.Grown.{Old, Each2, Grown, later_is, Same, complete_same}
+use Rattle.engine_history.proofs.Ready.{Grouped, AllBy, counted, ready_is, ready_stays}
 use Rattle.engine_history.proofs.Lanes.{any_lanes}
-use Rattle.engine_history.proofs.Units.{IsAnswer, AllAnswers, dress, dressed, Over, AllOver, passed_older, due_same, due_own}
+use Rattle.engine_history.proofs.Units.{IsAnswer, AllAnswers, dress, dressed, AllOver, passed_older, due_same, due_own}
 
 -- ---- one more use, where the older uses of its key are passed over
 

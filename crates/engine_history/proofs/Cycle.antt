@@ -1,16 +1,15 @@
 -- What a cycle of an orderly core tells of the uses.
-use Rattle.std.proofs.Common.{if◌then◌else◌, ◌≡◌, ◌⊎◌, inl, inr, ◌+◌, ◌==◌, ◌<◌, ◌≤◌, ◌&&◌, ◌||◌, not, ℕ, Bool, true, false, Option, Some, None, IfSome, List, [], ◌∷◌, map, length, refl, sym, ap, ap₂, ◌∙◌, subst, arith}
+use Rattle.std.proofs.Common.{if◌then◌else◌, ◌≡◌, inl, inr, ◌+◌, ◌==◌, ◌<◌, ◌≤◌, ◌&&◌, not, ℕ, Bool, true, false, Option, Some, None, IfSome, List, [], ◌∷◌, map, refl, sym, ap, ap₂, ◌∙◌, subst, arith}
 use Rattle.std.specs.Prelude.{is_none, is_some, nat_le}
 use Rattle.std.specs.Option.{option_map, option_map_or}
-use Rattle.std.proofs.lemmas.Bool.{eqb-true, eq-eqb, ne_eqb}
+use Rattle.std.proofs.lemmas.Bool.{eqb-true, eq-eqb}
 use Rattle.std.proofs.lemmas.Bool.Decides.{nat_tests}
 use Rattle.xif_base.specs.declared.params.Key.{Key}
 use Rattle.xif_signals.specs.declared.bus.Bus.{Bus}
 use Rattle.xif_session.specs.Facts.{same_key, issue_key, register_key, commit_key, result_key, is_issued, is_given, is_taken, is_covered}
-use Rattle.xif_session.proofs.Options.{both-true, and-true, no_true}
-use Rattle.engine_history.specs.Lives.{Life, Answer, Operands, Verdict, new_life, is_accepted, is_killed, is_released, latest, start_of, starts, with_start, change_if, at_start, answer_on, accepted_in, answered, operands_on, lanes_on, given, is_in_group, decided_by, decided, finished, changed}
-use Rattle.engine_history.specs.Told.{counts, ready_cycle, is_ready}
-use Rattle.engine_history.proofs.Keep.{Rising, HeadWaits, Keeps, IsChanged, KeepsAnswers, rising_up, head_start, older_same, latest_map, answered_is, rising_changed, given_is}
+use Rattle.xif_session.proofs.Options.{both-true, and-true}
+use Rattle.engine_history.specs.Lives.{Life, Answer, Operands, Verdict, is_released, latest, start_of, change_if, at_start, answer_on, accepted_in, answered, operands_on, given, is_in_group, decided_by, decided, finished, changed}
+use Rattle.engine_history.proofs.Keep.{Rising, HeadWaits, head_start, older_same, latest_map, answered_is, rising_changed, given_is}
 use Rattle.engine_history.proofs.Grown.{Comes, Grew, Old, Each2, Grown}
 use Rattle.engine_history.proofs.Ready.{Decided, Grouped, IsBy, AllBy}
 

@@ -1,37 +1,30 @@
 -- The engine's uses are those of the history, but for their ends and for what the units make of
 -- them: whatever the core does.
-use Rattle.std.proofs.Common.{if◌then◌else◌, ◌≡◌, ◌++◌, ◌+◌, ◌==◌, ◌<◌, ◌&&◌, ◌||◌, not, ℕ, Bool, true, false, Option, Some, None, List, [], ◌∷◌, map, filter, find, length, refl, sym, ap, ap₂, ◌∙◌, subst, arith}
+use Rattle.std.proofs.Common.{if◌then◌else◌, ◌≡◌, ◌++◌, ◌==◌, ◌&&◌, ◌||◌, not, ℕ, Bool, true, false, Option, Some, None, List, [], ◌∷◌, map, find, refl, sym, ap, ap₂, ◌∙◌, arith}
 use Rattle.std.specs.Prelude.{is_none, is_some}
 use Rattle.std.specs.Option.{option_map, option_map_or}
 use Rattle.std.specs.List.{list_any}
-use Rattle.std.proofs.lemmas.Bool.{eqb-true, eq-eqb, ne_eqb}
+use Rattle.std.proofs.lemmas.Bool.{eq-eqb, ne_eqb}
 use Rattle.std.proofs.lemmas.List.{map-append}
 use Rattle.xif_base.specs.declared.params.Key.{Key}
 use Rattle.xif_base.specs.declared.params.Params.{Params}
 use Rattle.coproc_config.specs.declared.accept.Hit.{Hit}
 use Rattle.coproc_config.specs.Set.{UnitTable}
-use Rattle.coproc_config.specs.Accept.{hit_of}
-use Rattle.xif_drive.specs.Scripts.{Lists}
 use Rattle.xif_signals.specs.declared.bus.Bus.{Bus}
-use Rattle.xif_signals.specs.declared.bus.CpuOut.{CpuOut}
-use Rattle.xif_signals.specs.declared.bus.CopOut.{CopOut}
-use Rattle.xif_session.specs.declared.fact.Decision.{Decision}
-use Rattle.xif_session.specs.declared.fact.Decision.TheVariants.{Undecided, Released, Killed}
 use Rattle.xif_session.specs.Facts.{same_key, issue_key, register_key, commit_key, result_key, is_issued, is_given, issue_waits, is_undecided, is_covered, verdict_of, decision_after}
 use Rattle.xif_session.specs.Facts as facts
-use Rattle.xif_session.specs.Uses.{last_bus}
-use Rattle.xif_session.proofs.Options.{key_is, key_same, no_true, both-true, and-true}
+use Rattle.xif_session.proofs.Options.{key_is}
 use Rattle.cycle_spec.specs.declared.turn.Transaction.{Transaction}
 use Rattle.cycle_spec.specs.declared.use_of.Use.{Use}
-use Rattle.cycle_spec.specs.State.{Engine, new_engine}
+use Rattle.cycle_spec.specs.State.{Engine}
 use Rattle.cycle_spec.specs.Engine as spec
-use Rattle.engine_history.specs.Lives.{Life, Answer, Operands, Verdict, new_life, is_of, is_accepted, is_killed, latest, start_of, goes_on, starts, with_start, change_if, at_start, answer_on, accepted_in, answered, operands_on, lanes_on, given, is_in_group, decided_by, decided, finished, changed, lives_after, lives_of, lives_with}
-use Rattle.engine_history.specs.Runs.{cpu_of, cop_of, input_of, engine_of, IsDriven}
+use Rattle.engine_history.specs.Lives.{Life, Answer, Verdict, new_life, is_killed, latest, start_of, goes_on, starts, with_start, change_if, at_start, answer_on, accepted_in, answered, operands_on, lanes_on, given, is_in_group, decided_by, decided, finished}
+use Rattle.engine_history.specs.Runs.{cpu_of, cop_of}
 use Rattle.engine_history.specs.Channels.{named_start}
 use Rattle.engine_history.specs.Told.{hit_by, hit_told, decision_told, use_told, plain, others, latest_uses}
 use Rattle.engine_history.proofs.Lists.{map_others, map_latest, latest_is, any_latest}
-use Rattle.engine_history.proofs.Keep.{Rising, HeadWaits, IsChanged, KeepsAnswers, Keeps, rising_up, head_with, head_start, older_same, start_changed, behind_is, changed_is}
-use Rattle.engine_history.proofs.Plain.{plain_map, plain_drop, latest_plain, any_plain, harts_plain, end_plain}
+use Rattle.engine_history.proofs.Keep.{Rising, HeadWaits, rising_up, head_start}
+use Rattle.engine_history.proofs.Plain.{plain_map, latest_plain, any_plain}
 
 -- the latest uses of a history
 abbrev pub told_uses : Params → List UnitTable → List Life → List Use

@@ -1,15 +1,15 @@
 -- What holds of the history of every session: starts rise, and a use that waits for its answer is
 -- the last that started.
-use Rattle.std.proofs.Common.{if◌then◌else◌, ◌≡◌, ◌<◌, ◌+◌, ◌==◌, ◌&&◌, ◌||◌, not, ℕ, Bool, true, false, Option, Some, None, List, [], ◌∷◌, map, filter, find, length, refl, sym, ap, ap₂, ◌∙◌, subst, arith}
+use Rattle.std.proofs.Common.{if◌then◌else◌, ◌≡◌, ◌<◌, ◌+◌, ◌==◌, ◌&&◌, not, ℕ, Bool, true, false, Option, Some, None, List, [], ◌∷◌, map, length, refl, sym, ap, ap₂, ◌∙◌, subst, arith}
 use Rattle.std.specs.Prelude.{is_none}
-use Rattle.std.specs.Option.{option_map, option_map_or}
-use Rattle.std.proofs.lemmas.Bool.{eqb-true, eq-eqb, ne_eqb}
+use Rattle.std.specs.Option.{option_map}
+use Rattle.std.proofs.lemmas.Bool.{ne_eqb}
 use Rattle.xif_base.specs.declared.params.Key.{Key}
 use Rattle.xif_signals.specs.declared.bus.Bus.{Bus}
 use Rattle.xif_session.specs.Facts.{same_key, issue_key, register_key, commit_key, result_key, is_issued, is_given, is_taken, issue_waits}
 use Rattle.xif_session.specs.Uses.{last_bus}
-use Rattle.xif_session.proofs.Options.{key_is, key_same, same_key-sym, no_true, both-true, and-true}
-use Rattle.engine_history.specs.Lives.{Life, Answer, Operands, Verdict, new_life, is_of, is_accepted, latest, start_of, goes_on, starts, with_start, change_if, at_start, answer_on, accepted_in, answered, operands_on, lanes_on, given, is_in_group, decided_by, decided, finished, changed, lives_after, lives_of, lives_with}
+use Rattle.xif_session.proofs.Options.{key_is, key_same, both-true}
+use Rattle.engine_history.specs.Lives.{Life, new_life, latest, start_of, goes_on, starts, with_start, change_if, at_start, answer_on, accepted_in, answered, operands_on, given, is_in_group, decided_by, decided, finished, changed, lives_after, lives_of, lives_with}
 
 -- ---- starts rise
 

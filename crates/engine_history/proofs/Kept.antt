@@ -1,9 +1,8 @@
 -- So, in every session, the fields of the engine's uses are those of the history.
-use Rattle.std.proofs.Common.{if◌then◌else◌, ◌≡◌, ◌++◌, ◌+◌, ◌==◌, ◌<◌, ◌&&◌, ◌||◌, not, ℕ, Bool, true, false, Option, Some, None, List, [], ◌∷◌, map, filter, find, length, refl, sym, ap, ap₂, ◌∙◌, subst, arith}
-use Rattle.std.specs.Prelude.{is_none, is_some}
+use Rattle.std.proofs.Common.{if◌then◌else◌, ◌≡◌, ◌+◌, ◌&&◌, not, ℕ, Bool, true, false, Option, Some, None, List, [], ◌∷◌, map, filter, length, refl, sym, ap, ap₂, ◌∙◌, subst, arith}
+use Rattle.std.specs.Prelude.{is_some}
 use Rattle.std.specs.Option.{option_map, option_map_or}
-use Rattle.std.proofs.lemmas.Bool.{eqb-true, eq-eqb, ne_eqb}
-use Rattle.xif_base.specs.declared.params.Key.{Key}
+use Rattle.std.proofs.lemmas.Bool.{eq-eqb}
 use Rattle.xif_base.specs.declared.params.Params.{Params}
 use Rattle.coproc_config.specs.declared.accept.Hit.{Hit}
 use Rattle.coproc_config.specs.Set.{UnitTable}
@@ -11,19 +10,17 @@ use Rattle.coproc_config.specs.Accept.{hit_of}
 use Rattle.xif_drive.specs.Scripts.{Lists}
 use Rattle.xif_signals.specs.declared.bus.Bus.{Bus}
 use Rattle.xif_signals.specs.declared.bus.CopOut.{CopOut}
-use Rattle.xif_session.specs.Facts.{same_key, issue_key, is_issued, issue_waits, response_on}
+use Rattle.xif_session.specs.Facts.{same_key, issue_key, is_issued, issue_waits}
 use Rattle.xif_session.specs.Uses.{last_bus}
 use Rattle.cycle_spec.specs.declared.turn.Transaction.{Transaction}
-use Rattle.cycle_spec.specs.declared.turn.Transactions.{Transactions}
-use Rattle.cycle_spec.specs.declared.use_of.Use.{Use}
-use Rattle.cycle_spec.specs.Turns.{transactions_after, turn_of, aged}
-use Rattle.cycle_spec.specs.State.{Engine, new_engine}
+use Rattle.cycle_spec.specs.Turns.{transactions_after}
+use Rattle.cycle_spec.specs.State.{Engine}
 use Rattle.cycle_spec.specs.Engine as spec
-use Rattle.engine_history.specs.Lives.{Life, Answer, new_life, is_accepted, latest, start_of, starts, with_start, change_if, at_start, answer_on, accepted_in, answered, given, decided, finished, changed, lives_after, lives_of, lives_with}
+use Rattle.engine_history.specs.Lives.{Life, Answer, new_life, is_accepted, start_of, starts, with_start, change_if, at_start, answer_on, accepted_in, answered, given, decided, lives_after, lives_of, lives_with}
 use Rattle.engine_history.specs.Runs.{cpu_of, cop_of, input_of, engine_of, IsDriven}
 use Rattle.engine_history.specs.Channels.{named_start, acceptances, accepts}
-use Rattle.engine_history.specs.Told.{hit_by, use_told, plain, latest_uses}
-use Rattle.engine_history.proofs.Keep.{Rising, HeadWaits, IsChanged, KeepsAnswers, rising_start, rising, head_named, head_waits, head_start, older_same, start_changed, behind_is, changed_is}
+use Rattle.engine_history.specs.Told.{hit_by, plain}
+use Rattle.engine_history.proofs.Keep.{Rising, HeadWaits, KeepsAnswers, rising_start, rising, head_named, head_waits, head_start, older_same, start_changed, behind_is, changed_is}
 use Rattle.engine_history.proofs.Plain.{harts_plain, end_plain}
 use Rattle.engine_history.proofs.Fields.{told_uses, start_named, IsTold, IsSound, started, answer_both, given_both, decided_both, finished_both}
 

@@ -1,5 +1,5 @@
 -- An entry that reads no register makes the same of any lanes.
-use Rattle.std.proofs.Common.{if◌then◌else◌, ◌≡◌, ◌++◌, ◌+◌, ◌/◌, ◌%◌, ◌^◌, ℕ, suc, zero, Bool, true, false, Option, Some, None, IfSome, IsSomeAnd, List, [], ◌∷◌, map, find, slice_get, refl, sym, ap, ap₂, ◌∙◌, subst, arith}
+use Rattle.std.proofs.Common.{if◌then◌else◌, ◌≡◌, ◌++◌, ◌+◌, ◌/◌, ◌%◌, ◌^◌, ℕ, suc, Bool, true, false, Option, Some, None, IfSome, IsSomeAnd, List, [], ◌∷◌, map, find, slice_get, refl, sym, ap, ◌∙◌, arith}
 use Rattle.std.specs.List.{enumerate_from, flat_map}
 use Rattle.std.specs.Option.{option_map}
 use Rattle.std.proofs.Math.Nat.{zero-div}
@@ -10,7 +10,6 @@ use Rattle.coproc_config.specs.declared.operation.Entry.{Entry}
 use Rattle.coproc_config.specs.declared.accept.Hit.{Hit}
 use Rattle.coproc_config.specs.Set.{UnitTable, Place, place_of, places_of, places}
 use Rattle.coproc_config.specs.Accept.{takes, hit_at, hit_of, entry_in, entry_at, HasFlag, HasFlagsOf}
-use Rattle.coproc_config.specs.Apply.{Outcome, applied}
 use Rattle.coproc_config.specs.Laws.{AgreeOn}
 use Rattle.coproc_config.proofs.Unread.{unread}
 use Rattle.cycle_spec.specs.Engine.{register_read_of, outcome_by}
@@ -38,9 +37,10 @@ record InUnit (unit from : ℕ) (entries : List Entry) (x : Place) : Type 0 wher
 
 in_unit : (k : ℕ) (unit : UnitTable) (from : ℕ) (entries : List Entry) → Each (InUnit k from entries) (map (place_of (k, unit)) (enumerate_from from entries))
 in_unit k unit from [] = tt
-in_unit k unit from (e ∷ entries) =
-    (record { unit_is = refl; at = 0; entry_is = omega arith; there = refl },
-    each_weaker (InUnit k (from + 1) entries) (InUnit k from (e ∷ entries)) (λ x h. let i = h.entry_is in record { unit_is = h.unit_is; at = suc h.at; entry_is = omega (arith, i); there = h.there }) _ (in_unit k unit (from + 1) entries))
+in_unit k unit from (e ∷ entries) = (
+  record { unit_is = refl; at = 0; entry_is = omega arith; there = refl },
+  each_weaker (InUnit k (from + 1) entries) (InUnit k from (e ∷ entries)) (λ x h. let i = h.entry_is in record { unit_is = h.unit_is; at = suc h.at; entry_is = omega (arith, i); there = h.there }) _ (in_unit k unit (from + 1) entries),
+)
 
 -- a place of a set, whose units are numbered from one on
 record InSet (from : ℕ) (units : List UnitTable) (x : Place) : Type 0 where

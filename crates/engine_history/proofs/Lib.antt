@@ -19,3 +19,5 @@ pub mod Session
 pub mod Orderly
 pub mod Order
 pub mod Readings
+pub mod Run
+mod Examples

@@ -1,12 +1,12 @@
 -- The latest use of each key, in the list of all uses.
-use Rattle.std.proofs.Common.{if◌then◌else◌, ◌≡◌, ◌++◌, ◌==◌, ◌&&◌, ◌||◌, not, ℕ, Bool, true, false, Option, Some, None, List, [], ◌∷◌, map, filter, find, refl, sym, ap, ap₂, ◌∙◌, arith}
-use Rattle.std.specs.Option.{option_map, option_map_or}
+use Rattle.std.proofs.Common.{if◌then◌else◌, ◌≡◌, ◌++◌, ◌||◌, not, Bool, true, false, Option, Some, None, List, [], ◌∷◌, map, filter, find, refl, sym, ap, ◌∙◌}
+use Rattle.std.specs.Option.{option_map_or}
 use Rattle.std.specs.List.{last_or, list_any}
 use Rattle.std.proofs.lemmas.List.{map-append}
 use Rattle.std.proofs.lemmas.List.Elements.{filter-append}
 use Rattle.xif_base.specs.declared.params.Key.{Key}
 use Rattle.xif_session.specs.Facts.{same_key}
-use Rattle.xif_session.proofs.Options.{key_is, key_same, same_key-sym, no_true}
+use Rattle.xif_session.proofs.Options.{key_is, key_same, no_true}
 use Rattle.cycle_spec.specs.declared.use_of.Use.{Use}
 use Rattle.cycle_spec.specs.Engine.{has_key, latest}
 use Rattle.engine_history.specs.Told.{others, latest_uses}

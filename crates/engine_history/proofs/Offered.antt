@@ -1,8 +1,8 @@
 -- The use whose result is offered: it is ready, and the latest of its key.
-use Rattle.std.proofs.Common.{if◌then◌else◌, ◌≡◌, ◌⊎◌, inl, inr, ◌++◌, ◌+◌, ◌==◌, ◌<◌, ◌&&◌, ◌||◌, not, ℕ, Bool, true, false, Option, Some, None, IfSome, List, [], ◌∷◌, map, filter, find, length, refl, sym, ap, ap₂, ◌∙◌, subst, arith}
-use Rattle.std.specs.Prelude.{is_none, is_some, nat_le}
+use Rattle.std.proofs.Common.{if◌then◌else◌, ◌≡◌, ◌⊎◌, inl, inr, ◌++◌, ◌==◌, ◌<◌, ◌&&◌, ◌||◌, not, ℕ, Bool, true, false, Option, Some, None, IfSome, List, [], ◌∷◌, find, refl, sym, ap, ap₂, ◌∙◌, subst, arith}
+use Rattle.std.specs.Prelude.{is_some}
 use Rattle.std.specs.Option.{option_map, option_map_or}
-use Rattle.std.proofs.lemmas.Bool.{eqb-true, eq-eqb, ne_eqb}
+use Rattle.std.proofs.lemmas.Bool.{eqb-true}
 use Rattle.xif_base.specs.declared.params.Key.{Key}
 use Rattle.xif_base.specs.declared.params.Params.{Params}
 use Rattle.coproc_config.specs.Set.{UnitTable}
@@ -13,7 +13,7 @@ use Rattle.cycle_spec.specs.declared.use_of.Use.{Use}
 use Rattle.cycle_spec.specs.State.{Engine}
 use Rattle.cycle_spec.specs.Engine as spec
 use Rattle.engine_history.specs.Lives.{Life, new_life, is_accepted, is_killed, latest, start_of, starts, with_start}
-use Rattle.engine_history.specs.Told.{others, latest_uses, later, complete_cycle, all_complete, counts, ready_cycle, is_ready, whole_use, whole_uses}
+use Rattle.engine_history.specs.Told.{others, latest_uses, later, complete_cycle, all_complete, counts, is_ready, whole_use, whole_uses}
 use Rattle.engine_history.proofs.Keep.{Rising, rising_up}
 use Rattle.engine_history.proofs.Cycle.{latest_below}
 

@@ -1,12 +1,12 @@
 -- Uses are answered in the order of their starts.
-use Rattle.std.proofs.Common.{if◌then◌else◌, ◌≡◌, ◌+◌, ◌==◌, ◌<◌, ◌&&◌, not, ℕ, Bool, true, false, Option, Some, None, IfSome, List, [], ◌∷◌, map, filter, length, refl, sym, ap, ap₂, ◌∙◌, subst, arith}
+use Rattle.std.proofs.Common.{if◌then◌else◌, ◌≡◌, ◌+◌, ◌<◌, ◌&&◌, ℕ, Bool, true, false, Option, Some, None, IfSome, List, [], ◌∷◌, map, filter, length, refl, sym, ap, ap₂, ◌∙◌, subst, arith}
 use Rattle.std.specs.Option.{option_map_or}
 use Rattle.std.proofs.lemmas.Bool.{eq-eqb}
 use Rattle.xif_signals.specs.declared.bus.Bus.{Bus}
 use Rattle.xif_session.specs.Facts.{issue_key, is_issued}
 use Rattle.xif_session.specs.Uses.{last_bus}
 use Rattle.engine_history.specs.Lives.{Life, Answer, new_life, is_accepted, start_of, starts, with_start, change_if, at_start, answer_on, accepted_in, answered, changed, lives_of, lives_with, AnsweredBefore, IsInOrder, AnswersAreInOrder}
-use Rattle.engine_history.proofs.Keep.{Rising, HeadWaits, IsChanged, KeepsAnswers, rising, rising_start, head_named, head_waits, head_start, older_same, behind_is}
+use Rattle.engine_history.proofs.Keep.{Rising, HeadWaits, KeepsAnswers, rising, rising_start, head_named, head_waits, head_start, older_same, behind_is}
 
 record InOrder (cycle : ℕ) (ls : List Life) : Type 0 where
   before : AnsweredBefore cycle ls
@@ -87,7 +87,7 @@ in_order (b ∷ session) =
     let n : length session + 1 ≡ length (b ∷ session) = omega arith in
     subst (λ k. InOrder k (lives_of (b ∷ session))) n
     (subst (InOrder (cycle + 1)) (sym k.changed.is)
-    (record { before = before_map k.changed.change k.answer (cycle + 1) x done.before; order = order_map k.changed.change k.answer x done.order }))
+    (after (done (in_order session))))
   where
     cycle : ℕ
     cycle = length session
@@ -101,10 +101,13 @@ in_order (b ∷ session) =
     k : KeepsAnswers x (changed cycle b named)
     k = behind_is cycle b x
 
-    done : InOrder (cycle + 1) x
-    done =
+    after : InOrder (cycle + 1) x → InOrder (cycle + 1) (map k.changed.change x)
+    after o = record { before = before_map k.changed.change k.answer (cycle + 1) x o.before; order = order_map k.changed.change k.answer x o.order }
+
+    done : InOrder cycle (lives_of session) → InOrder (cycle + 1) x
+    done o =
         answer_order cycle (cycle + 1) b named (rising_start cycle (last_bus session) b (lives_of session) (rising session)) (head_named cycle (last_bus session) b (lives_of session) (head_waits session))
-        (start_order cycle (last_bus session) b (lives_of session) (in_order session))
+        (start_order cycle (last_bus session) b (lives_of session) o)
 
 pub answers_in_order : (session : List Bus) → AnswersAreInOrder (lives_of session)
 answers_in_order session = (in_order session).order

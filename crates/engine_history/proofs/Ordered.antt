@@ -1,41 +1,40 @@
 -- Beside an orderly core the engine's uses, their ends, ready cycles and results, and the
 -- accumulators are those that the history tells.
-use Rattle.std.proofs.Common.{if◌then◌else◌, ◌≡◌, ◌⊎◌, inl, inr, ◌++◌, ◌+◌, ◌==◌, ◌<◌, ◌≤◌, ◌&&◌, ◌||◌, not, ℕ, Bool, true, false, Option, Some, None, IfSome, List, [], ◌∷◌, map, filter, find, length, replicate, refl, sym, ap, ap₂, ◌∙◌, subst, arith}
+use Rattle.std.proofs.Common.{if◌then◌else◌, ◌≡◌, ◌⊎◌, inl, inr, ◌+◌, ◌==◌, ◌<◌, ◌&&◌, ◌||◌, not, ℕ, Bool, true, false, Option, Some, None, IfSome, List, [], ◌∷◌, map, length, refl, sym, ap, ap₂, ◌∙◌, subst, arith}
 use Rattle.std.specs.Prelude.{is_none, is_some, slice_index_or}
 use Rattle.std.specs.Option.{option_map, option_map_or}
-use Rattle.std.proofs.lemmas.Bool.{eqb-true, eq-eqb, ne_eqb}
+use Rattle.std.proofs.lemmas.Bool.{eqb-true}
 use Rattle.std.proofs.lemmas.List.{length-replicate, get_or-replicate}
 use Rattle.xif_base.specs.declared.params.Key.{Key}
 use Rattle.xif_base.specs.declared.params.Params.{Params}
 use Rattle.xif_base.specs.Params.{IsInRange}
-use Rattle.coproc_config.specs.declared.accept.Hit.{Hit}
 use Rattle.coproc_config.specs.Set.{UnitTable}
 use Rattle.coproc_config.specs.Accept.{hit_of}
 use Rattle.coproc_config.specs.State.{zeros}
 use Rattle.xif_drive.specs.Scripts.{Lists}
 use Rattle.xif_signals.specs.declared.bus.Bus.{Bus}
 use Rattle.xif_signals.specs.declared.bus.CopOut.{CopOut}
-use Rattle.xif_session.specs.Facts.{same_key, issue_key, register_key, commit_key, result_key, is_issued, is_given, is_taken}
+use Rattle.xif_session.specs.Facts.{same_key, issue_key, register_key, commit_key, result_key, is_issued, is_given, is_taken, result_waits}
 use Rattle.xif_session.specs.Uses.{last_bus}
-use Rattle.xif_session.proofs.Options.{key_is, key_same, no_true, both-true, and-true}
+use Rattle.xif_session.proofs.Options.{key_is, no_true, both-true}
 use Rattle.cycle_spec.specs.declared.use_of.Use.{Use}
-use Rattle.cycle_spec.specs.State.{Engine, new_engine}
+use Rattle.cycle_spec.specs.State.{Engine}
 use Rattle.cycle_spec.specs.Engine as spec
 use Rattle.cycle_spec.specs.Engine.{is_complete, units_behind, ready_in_harts, units_in_harts}
-use Rattle.engine_history.specs.Lives.{Life, Answer, Operands, Verdict, new_life, is_accepted, is_killed, latest, start_of, starts, with_start, change_if, at_start, answer_on, accepted_in, answered, operands_on, lanes_on, given, is_in_group, decided_by, decided, finished, changed, lives_after, lives_of}
+use Rattle.engine_history.specs.Lives.{Life, Answer, new_life, is_accepted, is_killed, latest, start_of, starts, with_start, change_if, at_start, answer_on, accepted_in, answered, operands_on, given, is_in_group, decided_by, decided, changed, lives_after, lives_of}
 use Rattle.engine_history.specs.Runs.{cpu_of, cop_of, input_of, engine_of, IsDriven}
-use Rattle.engine_history.specs.Told.{hit_by, use_told, others, latest_uses, counts, ready_cycle, is_ready, outcome_told, units_told, whole_uses}
-use Rattle.engine_history.proofs.Keep.{Rising, HeadWaits, IsChanged, KeepsAnswers, rising_start, head_named, start_changed, behind_is, answered_is, given_is, decided_is, changed_is}
+use Rattle.engine_history.specs.Told.{latest_uses, counts, ready_cycle, is_ready, outcome_told, units_told, whole_uses}
+use Rattle.engine_history.proofs.Keep.{Rising, KeepsAnswers, rising_start, head_named, start_changed, behind_is, answered_is, given_is, decided_is, finished_is, changed_is}
 use Rattle.engine_history.proofs.Fields.{IsTold, IsSound}
 use Rattle.engine_history.proofs.Kept.{accepted_start, hit_driven, on_channel, sound, told}
 use Rattle.engine_history.proofs.Settle.{units_length, units_at}
 use Rattle.engine_history.proofs.Grown.{Grew, Old, Each2, Grown}
-use Rattle.engine_history.proofs.Ready.{Decided, Grouped, AllBy, counted, ready_stays}
+use Rattle.engine_history.proofs.Ready.{Grouped, AllBy, counted, ready_stays}
 use Rattle.engine_history.proofs.Units.{IsAnswer, AllAnswers, dressed, Over, AllOver}
 use Rattle.engine_history.proofs.Applied.{IsCycle, units_cycle}
 use Rattle.engine_history.proofs.Settled.{AllHarts, settled}
 use Rattle.engine_history.proofs.Cycle.{changed_grown, grown_by, all_up, changed_grouped}
-use Rattle.engine_history.proofs.Stepped.{IsDressed, ready_new, start_dressed, answer_dressed, given_dressed, decided_dressed, finished_dressed}
+use Rattle.engine_history.proofs.Stepped.{ready_new, start_dressed, answer_dressed, given_dressed, decided_dressed, finished_dressed}
 use Rattle.engine_history.proofs.Offered.{EachAt, Waits, WaitsAt, is_running, IsOffered, offered_is, offered_named, waits_named}
 
 -- ---- what holds of the history of an orderly core
@@ -307,11 +306,12 @@ waits_grown cycle s (l ∷ ls) (n ∷ now) e g p w = (waits_one cycle s l n ls n
 
 -- ---- a cycle
 
-pub record IsWhole (params : Params) (set : List UnitTable) (ls : List Life) (e : Engine) : Type 0 where
+pub record IsWhole (params : Params) (set : List UnitTable) (last : Bus) (ls : List Life) (e : Engine) : Type 0 where
   pub uses_are : e.uses ≡ latest_uses (whole_uses params set ls)
   pub count_is : length e.units ≡ params.num_harts
   pub units_are : (h : ℕ) → h < params.num_harts → slice_index_or e.units h [] ≡ units_told params set h ls
   pub waits : IfSome e.result_waiting (λ s. Waits s ls)
+  pub waiting_is : e.result_waiting ≡ (if result_waits last then start_of (result_key last) ls else None)
 
 -- the key of the result is that of the use that is offered
 offered_key : (b : Bus) (e : Engine) (u : Use) → cop_of b ≡ spec.engine_drive e (cpu_of b) → spec.offered_use e ≡ Some u → result_key b ≡ u.key
@@ -332,13 +332,13 @@ units_new params set h cycle last b ls = go (starts last b ls)
         ∙ ap (λ t. if t then (outcome_told params set (units_told params set h ls) (new_life (issue_key b) cycle b.issue_instr)).state else units_told params set h ls) (none ((issue_key b).hart == h))
     go false = refl
 
-pub record IsBoth (params : Params) (set : List UnitTable) (cycle : ℕ) (ls : List Life) (e : Engine) : Type 0 where
+pub record IsBoth (params : Params) (set : List UnitTable) (cycle : ℕ) (last : Bus) (ls : List Life) (e : Engine) : Type 0 where
   pub kept_is : IsKept params set cycle ls
-  pub whole_is : IsWhole params set ls e
+  pub whole_is : IsWhole params set last ls e
 
-pub cycle_both : (params : Params) (set : List UnitTable) (cycle : ℕ) (last b : Bus) (ls : List Life) (e : Engine) → IsInRange params → IsTold params set cycle last ls e → IsSound cycle last ls → IsBoth params set cycle ls e
+pub cycle_both : (params : Params) (set : List UnitTable) (cycle : ℕ) (last b : Bus) (ls : List Life) (e : Engine) → IsInRange params → IsTold params set cycle last ls e → IsSound cycle last ls → IsBoth params set cycle last ls e
     → IsOrderlyCycle params cycle last b ls → cop_of b ≡ spec.engine_drive e (cpu_of b)
-    → IsBoth params set (cycle + 1) (lives_after cycle last b ls) (spec.engine_clock e (cpu_of b) (cop_of b) (input_of b))
+    → IsBoth params set (cycle + 1) b (lives_after cycle last b ls) (spec.engine_clock e (cpu_of b) (cop_of b) (input_of b))
 cycle_both params set cycle last b ls e range m s both o d = record {
   kept_is = record {
     by = all_up cycle now by_now;
@@ -356,6 +356,9 @@ cycle_both params set cycle last b ls e range m s both o d = record {
     count_is = units_length e.set 0 e.units ended_now ∙ both.whole_is.count_is;
     units_are = λ h l. units_now h (subst (λ n. h < n) (sym both.whole_is.count_is) l);
     waits = waiting (spec.offered_use e) refl b.result_ready refl valid;
+    waiting_is =
+        awaited (spec.offered_use e) refl b.result_valid b.result_ready valid
+        ∙ ap (λ o. if result_waits b then o else None) (sym (start_changed mid now (finished_is cycle b mid).changed (result_key b)));
   };
 }
   where
@@ -432,6 +435,14 @@ cycle_both params set cycle last b ls e range m s both o d = record {
         none true = refl
         none false = refl
 
+    awaited : (o : Option Use) → spec.offered_use e ≡ o → (v y : Bool) → v ≡ is_some o → (if y then None else option_map (λ (u : Use). u.start) o) ≡ (if v && not y then start_of (result_key b) mid else None)
+    awaited None q true y z = absurd (no_true true refl z)
+    awaited None q false true z = refl
+    awaited None q false false z = refl
+    awaited (Some u) q true true z = refl
+    awaited (Some u) q true false z = sym (start_named u q)
+    awaited (Some u) q false y z = absurd (no_true true refl (sym z))
+
     ended_now : List Use
     ended_now = spec.ended_uses e (cpu_of b) (cop_of b) (input_of b)
 
@@ -459,7 +470,7 @@ AllOrderly params [] = Unit {0}
 AllOrderly params (b ∷ session) = IsOrderlyCycle params (length session) (last_bus session) b (lives_of session) × AllOrderly params session
 
 pub both_told : (params : Params) (set : List UnitTable) (script : Lists) (session : List Bus) → IsInRange params → IsDriven params set script session → AllOrderly params session
-    → IsBoth params set (length session) (lives_of session) (engine_of params set script session)
+    → IsBoth params set (length session) (last_bus session) (lives_of session) (engine_of params set script session)
 both_told params set script [] range d o = record {
   kept_is = record { by = tt; grouped = tt; answers = tt; over = tt; harts = tt; ended = tt };
   whole_is = record {
@@ -467,10 +478,11 @@ both_told params set script [] range d o = record {
     count_is = length-replicate params.num_harts (zeros set);
     units_are = λ h l. get_or-replicate params.num_harts h (zeros set) [] l;
     waits = tt;
+    waiting_is = refl;
   };
 }
 both_told params set script (b ∷ session) range d o =
     let n : length session + 1 ≡ length (b ∷ session) = omega arith in
-    subst (λ k. IsBoth params set k (lives_of (b ∷ session)) (engine_of params set script (b ∷ session))) n
+    subst (λ k. IsBoth params set k b (lives_of (b ∷ session)) (engine_of params set script (b ∷ session))) n
     (cycle_both params set (length session) (last_bus session) b (lives_of session) (engine_of params set script session) range (told params set script session d.1) (sound session)
     (both_told params set script session range d.1 o.1) o.0 d.0)

@@ -1,8 +1,7 @@
 -- What the core owes, said of the history.
-use Rattle.std.proofs.Common.{if◌then◌else◌, ◌≡◌, ◌+◌, ◌==◌, ◌<◌, ◌&&◌, ◌||◌, not, ℕ, Bool, true, false, Option, Some, None, IfSome, List, [], ◌∷◌, length, refl, sym, ap, ap₂, ◌∙◌, subst, arith}
-use Rattle.std.specs.Prelude.{is_none, is_some, IsTrue, IsSomeAnd}
+use Rattle.std.proofs.Common.{◌≡◌, ◌&&◌, ◌||◌, not, Bool, true, false, Option, Some, None, List, [], ◌∷◌, length, refl, sym, ap, ap₂, ◌∙◌, subst}
+use Rattle.std.specs.Prelude.{is_some, IsSomeAnd}
 use Rattle.std.specs.Option.{option_map, option_map_or}
-use Rattle.xif_base.specs.declared.params.Key.{Key}
 use Rattle.xif_base.specs.declared.params.Params.{Params}
 use Rattle.xif_base.specs.declared.flags.ReadFlags.{ReadFlags}
 use Rattle.xif_base.specs.Params.{IsInRange}
@@ -10,14 +9,11 @@ use Rattle.coproc_config.specs.Set.{UnitTable}
 use Rattle.xif_drive.specs.Scripts.{Lists}
 use Rattle.xif_signals.specs.declared.bus.Bus.{Bus}
 use Rattle.xif_signals.specs.declared.rule.Channel.TheVariants.{Issue}
-use Rattle.xif_session.specs.declared.fact.Fact.{Fact}
-use Rattle.xif_session.specs.declared.fact.Response.{Response}
 use Rattle.xif_session.specs.Facts.{past_of, issue_key, register_key, is_given, is_in_flight, is_running as runs, is_held, named, is_start, verdict_of}
 use Rattle.xif_session.specs.Facts as facts
 use Rattle.xif_session.specs.Rules.{HasHart, HoldsI2, HoldsG2}
-use Rattle.xif_session.specs.Legal.{EachCycle}
 use Rattle.xif_session.specs.Uses.{last_bus}
-use Rattle.engine_history.specs.Lives.{Life, Answer, Operands, Verdict, latest, starts, lives_of, lives_with}
+use Rattle.engine_history.specs.Lives.{Life, Answer, Operands, Verdict, latest, lives_of, lives_with}
 use Rattle.engine_history.specs.Runs.{IsOrderly, IsDriven, engine_of}
 use Rattle.engine_history.specs.Told.{decision_told, fact_told}
 use Rattle.engine_history.proofs.Offered.{is_running}
@@ -70,5 +66,5 @@ all_orderly params (b ∷ session) o =
 
 -- beside an orderly core
 pub orderly_told : (params : Params) (set : List UnitTable) (script : Lists) (session : List Bus) → IsInRange params → IsDriven params set script session → IsOrderly params session
-    → IsBoth params set (length session) (lives_of session) (engine_of params set script session)
+    → IsBoth params set (length session) (last_bus session) (lives_of session) (engine_of params set script session)
 orderly_told params set script session range d o = both_told params set script session range d (all_orderly params session o)

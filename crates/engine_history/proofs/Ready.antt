@@ -1,13 +1,13 @@
 -- Which uses are ready after a cycle, by those that were before it.
-use Rattle.std.proofs.Common.{if◌then◌else◌, ◌≡◌, ◌⊎◌, inl, inr, ◌+◌, ◌==◌, ◌<◌, ◌≤◌, ◌&&◌, ◌||◌, not, max, ℕ, Bool, true, false, Option, Some, None, IfSome, List, [], ◌∷◌, map, length, refl, sym, ap, ap₂, ◌∙◌, subst, arith}
-use Rattle.std.specs.Prelude.{is_none, is_some}
+use Rattle.std.proofs.Common.{if◌then◌else◌, ◌≡◌, inl, inr, ◌==◌, ◌<◌, ◌≤◌, ◌&&◌, not, max, ℕ, Bool, true, false, Option, Some, None, IfSome, List, [], ◌∷◌, refl, sym, ap, ap₂, ◌∙◌, subst, arith}
+use Rattle.std.specs.Prelude.{is_some}
 use Rattle.std.specs.Option.{option_map, option_map_or}
-use Rattle.std.proofs.lemmas.Bool.{eqb-true, eq-eqb, ne_eqb}
+use Rattle.std.proofs.lemmas.Bool.{eqb-true, eq-eqb}
 use Rattle.xif_base.specs.declared.params.Key.{Key}
 use Rattle.xif_session.proofs.Options.{both-true, and-true, no_true}
 use Rattle.engine_history.specs.Lives.{Life, Answer, Operands, Verdict, is_accepted, is_killed, is_released}
-use Rattle.engine_history.specs.Told.{later, answer_cycle, reads, operands_cycle, release_by, complete_cycle, counts, all_complete, ready_cycle, is_ready}
-use Rattle.engine_history.proofs.Grown.{Comes, Grew, Old, Each2, Grown, stays, stood, IsLater, later_is, later_some, max_left, max_right, max_up, IsComplete, complete_is, Same, complete_same, complete_stays, complete_stood}
+use Rattle.engine_history.specs.Told.{later, answer_cycle, reads, operands_cycle, release_by, complete_cycle, counts, all_complete, ready_cycle}
+use Rattle.engine_history.proofs.Grown.{Comes, Grew, Old, Each2, stays, IsLater, later_is, max_left, max_right, max_up, complete_is, complete_same, complete_stays, complete_stood}
 
 -- ---- what holds of a history
 

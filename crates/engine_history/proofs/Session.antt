@@ -1,23 +1,21 @@
 -- The history is that of the session's rules.
-use Rattle.std.proofs.Common.{if◌then◌else◌, ◌≡◌, ◌+◌, ◌==◌, ◌<◌, ◌&&◌, ◌||◌, not, ℕ, Bool, true, false, Option, Some, None, IfSome, List, [], ◌∷◌, map, length, refl, sym, ap, ap₂, ◌∙◌, subst, arith}
-use Rattle.std.specs.Prelude.{is_none, is_some, IsTrue, IsSomeAnd}
+use Rattle.std.proofs.Common.{if◌then◌else◌, ◌≡◌, ◌+◌, ◌==◌, ◌&&◌, ◌||◌, not, ℕ, Bool, true, false, Option, Some, None, List, [], ◌∷◌, map, length, refl, sym, ap, ap₂, ◌∙◌, arith}
+use Rattle.std.specs.Prelude.{is_none, is_some}
 use Rattle.std.specs.Option.{option_map, option_map_or}
 use Rattle.std.proofs.lemmas.Bool.{eqb-true, eq-eqb, ne_eqb}
 use Rattle.xif_base.specs.declared.params.Key.{Key}
-use Rattle.xif_base.specs.declared.params.Params.{Params}
 use Rattle.xif_signals.specs.declared.bus.Bus.{Bus}
 use Rattle.xif_session.specs.declared.fact.Fact.{Fact}
 use Rattle.xif_session.specs.declared.fact.Decision.{Decision}
-use Rattle.xif_session.specs.declared.fact.Decision.TheVariants.{Undecided, Released, Killed}
 use Rattle.xif_session.specs.Facts.{Past, past_of, same_key, issue_key, register_key, commit_key, result_key, is_issued, is_given, is_taken, issue_waits, is_undecided, is_covered, verdict_of, decision_after, new_fact, with_response, with_operands, with_decision, with_end, response_on, undecided_start, has_killed, is_in_flight, is_start, named}
 use Rattle.xif_session.specs.Facts as facts
 use Rattle.xif_session.specs.Uses.{Use as SessionUse, last_bus, change_latest}
 use Rattle.xif_session.specs.Uses as uses
-use Rattle.xif_session.proofs.Options.{key_is, key_same, no_true, both-true, and-true}
+use Rattle.xif_session.proofs.Options.{key_is, no_true}
 use Rattle.xif_session.proofs.Whole.{whole, cycle_is, last_is, continues_same, named_agree}
-use Rattle.engine_history.specs.Lives.{Life, Answer, Operands, Verdict, new_life, latest, start_of, goes_on, starts, with_start, change_if, at_start, answer_on, accepted_in, answered, operands_on, given, is_in_group, decided_by, decided, finished, lives_of, lives_with}
+use Rattle.engine_history.specs.Lives.{Life, Verdict, new_life, latest, start_of, goes_on, starts, with_start, change_if, at_start, answer_on, accepted_in, answered, operands_on, given, is_in_group, decided_by, decided, finished, lives_of, lives_with}
 use Rattle.engine_history.specs.Told.{decision_told, fact_told, session_use}
-use Rattle.engine_history.proofs.Keep.{Rising, IsChanged, Keeps, rising, rising_start, rising_changed, older_same, latest_map, answered_is, given_is, decided_is}
+use Rattle.engine_history.proofs.Keep.{Rising, Keeps, rising, rising_start, rising_changed, older_same, latest_map, answered_is, given_is, decided_is}
 use Rattle.engine_history.proofs.Cycle.{latest_below}
 
 -- ---- what a key names

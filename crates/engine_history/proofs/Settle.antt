@@ -1,8 +1,8 @@
 -- The units, over a list of uses: one more use at its end, and uses of a key that are left out.
-use Rattle.std.proofs.Common.{if◌then◌else◌, ◌≡◌, ◌++◌, ◌+◌, ◌==◌, ◌<◌, ◌&&◌, ◌||◌, not, ℕ, suc, zero, Bool, true, false, Option, Some, None, List, [], ◌∷◌, length, refl, sym, ap, ap₂, ◌∙◌, subst, arith}
+use Rattle.std.proofs.Common.{if◌then◌else◌, ◌≡◌, ◌++◌, ◌+◌, ◌==◌, ◌<◌, ◌&&◌, ◌||◌, not, ℕ, suc, zero, Bool, true, false, List, [], ◌∷◌, length, refl, sym, ap, ap₂, ◌∙◌, subst, arith}
 use Rattle.std.specs.Prelude.{is_none, slice_index_or}
 use Rattle.std.specs.List.{list_any}
-use Rattle.std.proofs.lemmas.Bool.{eqb-true, eq-eqb, ne_eqb}
+use Rattle.std.proofs.lemmas.Bool.{ne_eqb}
 use Rattle.std.proofs.lemmas.Bool.Decides.{nat_tests}
 use Rattle.xif_base.specs.declared.params.Key.{Key}
 use Rattle.coproc_config.specs.Set.{UnitTable}
@@ -10,7 +10,6 @@ use Rattle.xif_session.specs.Facts.{same_key, is_killed}
 use Rattle.cycle_spec.specs.declared.use_of.Use.{Use}
 use Rattle.cycle_spec.specs.Engine.{is_accepted, is_complete, outcome_of, is_next, with_ready, ready_uses, units_behind, ready_in_harts, units_in_harts}
 use Rattle.engine_history.specs.Told.{others}
-use Rattle.engine_history.proofs.Lists.{any-push}
 
 -- the next use of a hart, which isn't complete, holds back the younger ones
 abbrev pub waits_in : ℕ → Use → Bool

@@ -1,22 +1,21 @@
 -- So the units make of the uses of a cycle the uses that the history tells.
-use Rattle.std.proofs.Common.{if◌then◌else◌, ◌≡◌, ◌⊎◌, inl, inr, ◌++◌, ◌+◌, ◌==◌, ◌<◌, ◌&&◌, ◌||◌, not, ℕ, Bool, true, false, Option, Some, None, IfSome, List, [], ◌∷◌, map, length, refl, sym, ap, ap₂, ◌∙◌, subst, arith}
+use Rattle.std.proofs.Common.{if◌then◌else◌, ◌≡◌, ◌⊎◌, inl, inr, ◌++◌, ◌+◌, ◌==◌, ◌<◌, ◌&&◌, ℕ, Bool, true, false, Option, Some, None, List, [], ◌∷◌, length, refl, sym, ap, ap₂, ◌∙◌, subst}
 use Rattle.std.specs.Prelude.{is_none, is_some, slice_index_or}
-use Rattle.std.proofs.lemmas.Bool.{eqb-true, eq-eqb, ne_eqb}
+use Rattle.std.proofs.lemmas.Bool.{eqb-true, eq-eqb}
 use Rattle.xif_base.specs.declared.params.Key.{Key}
 use Rattle.xif_base.specs.declared.params.Params.{Params}
 use Rattle.xif_base.specs.Params.{IsInRange}
 use Rattle.coproc_config.specs.Set.{UnitTable}
 use Rattle.coproc_config.specs.Apply.{Outcome}
-use Rattle.xif_session.specs.Facts.{same_key}
-use Rattle.xif_session.proofs.Options.{both-true, and-true, no_true}
+use Rattle.xif_session.proofs.Options.{no_true}
 use Rattle.cycle_spec.specs.declared.use_of.Use.{Use}
 use Rattle.cycle_spec.specs.Engine.{is_complete, outcome_of, with_ready, units_behind, ready_in_harts}
 use Rattle.engine_history.specs.Lives.{Life}
 use Rattle.engine_history.specs.Told.{use_told, others, latest_uses, counts, ready_cycle, is_ready, outcome_told, units_told, result_told, whole_use, whole_uses}
-use Rattle.engine_history.proofs.Settle.{blocked, is_due, ready_one, push_at, Passed, drop_harts}
-use Rattle.engine_history.proofs.Grown.{Grew, Old, Each2, Grown, Same, complete_same}
-use Rattle.engine_history.proofs.Ready.{Grouped, AllBy, counted, IsReady, ready_is, ready_stays, ready_comes}
-use Rattle.engine_history.proofs.Units.{IsAnswer, AllAnswers, dress, dressed, Over, AllOver, passed_older, due_own}
+use Rattle.engine_history.proofs.Settle.{ready_one, push_at, Passed, drop_harts}
+use Rattle.engine_history.proofs.Grown.{Grew, Old, Each2, Grown, complete_same}
+use Rattle.engine_history.proofs.Ready.{counted, ready_is, ready_stays, ready_comes}
+use Rattle.engine_history.proofs.Units.{dress, dressed, passed_older, due_own}
 use Rattle.engine_history.proofs.Applied.{one_dropped, Idle, ready_idle, idle_behind, outcome_same, IsCycle, older_cycle, old_grown, units_ready, units_other, units_cycle}
 
 -- ---- one use

@@ -1,21 +1,19 @@
 -- The steps of the engine on the whole uses that the history tells.
-use Rattle.std.proofs.Common.{if◌then◌else◌, ◌≡◌, ◌++◌, ◌+◌, ◌==◌, ◌<◌, ◌&&◌, ◌||◌, not, ℕ, Bool, true, false, Option, Some, None, IfSome, List, [], ◌∷◌, map, filter, find, length, refl, sym, ap, ap₂, ◌∙◌, subst, arith}
+use Rattle.std.proofs.Common.{if◌then◌else◌, ◌≡◌, ◌++◌, ◌==◌, ◌&&◌, ◌||◌, ℕ, Bool, true, false, Option, Some, None, IfSome, List, [], ◌∷◌, map, refl, sym, ap, ap₂, ◌∙◌}
 use Rattle.std.specs.Prelude.{is_none, is_some}
 use Rattle.std.specs.Option.{option_map, option_map_or}
-use Rattle.std.proofs.lemmas.Bool.{eqb-true, eq-eqb, ne_eqb}
 use Rattle.xif_base.specs.declared.params.Key.{Key}
 use Rattle.xif_base.specs.declared.params.Params.{Params}
 use Rattle.coproc_config.specs.declared.accept.Hit.{Hit}
 use Rattle.coproc_config.specs.Set.{UnitTable}
 use Rattle.xif_signals.specs.declared.bus.Bus.{Bus}
-use Rattle.xif_session.specs.Facts.{same_key, issue_key, register_key, commit_key, result_key, is_issued, is_given, is_taken, is_undecided, verdict_of}
-use Rattle.xif_session.proofs.Options.{key_is, key_same, no_true, both-true, and-true}
+use Rattle.xif_session.specs.Facts.{issue_key, register_key, commit_key, result_key, is_issued, is_given, is_undecided, verdict_of}
 use Rattle.cycle_spec.specs.declared.use_of.Use.{Use}
 use Rattle.cycle_spec.specs.State.{Engine}
 use Rattle.cycle_spec.specs.Engine as spec
-use Rattle.engine_history.specs.Lives.{Life, Answer, Operands, Verdict, new_life, latest, start_of, starts, with_start, change_if, at_start, answer_on, accepted_in, answered, operands_on, lanes_on, given, is_in_group, decided_by, decided, finished}
+use Rattle.engine_history.specs.Lives.{Life, Verdict, new_life, latest, start_of, starts, with_start, change_if, at_start, answer_on, accepted_in, answered, operands_on, lanes_on, given, is_in_group, decided_by, decided, finished}
 use Rattle.engine_history.specs.Runs.{cpu_of, cop_of, input_of}
-use Rattle.engine_history.specs.Told.{hit_by, decision_told, use_told, plain, others, latest_uses, later, complete_cycle, all_complete, counts, ready_cycle, is_ready, outcome_told, units_told, result_told, whole_use, whole_uses}
+use Rattle.engine_history.specs.Told.{hit_by, decision_told, use_told, plain, others, latest_uses, later, complete_cycle, all_complete, counts, ready_cycle, outcome_told, units_told, result_told, whole_use, whole_uses}
 use Rattle.engine_history.proofs.Lists.{map_latest}
 use Rattle.engine_history.proofs.Fields.{told_uses, names, one_answer, one_given, one_decided, IsTold, IsSound, starts_same, started, answer_both, given_both, decided_both}
 use Rattle.engine_history.proofs.Units.{dress, dressed}

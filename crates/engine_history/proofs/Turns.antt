@@ -1,6 +1,5 @@
 -- The transactions that the engine counts are those of the channels.
-use Rattle.std.proofs.Common.{if◌then◌else◌, ◌≡◌, ◌+◌, ◌==◌, ◌&&◌, not, ℕ, suc, zero, Bool, true, false, Option, Some, None, List, [], ◌∷◌, drop, length, refl, sym, ap, ap₂, ◌∙◌, subst, arith}
-use Rattle.std.specs.Option.{option_map, option_map_or}
+use Rattle.std.proofs.Common.{if◌then◌else◌, ◌≡◌, ◌+◌, ◌==◌, ◌&&◌, ℕ, suc, Bool, true, false, Option, Some, None, List, [], ◌∷◌, drop, length, refl, sym, ap, ap₂, ◌∙◌, subst, arith}
 use Rattle.std.proofs.lemmas.Bool.{eqb-true, eq-eqb, ne_eqb}
 use Rattle.xif_base.specs.declared.params.Params.{Params}
 use Rattle.coproc_config.specs.Set.{UnitTable}
@@ -8,17 +7,16 @@ use Rattle.xif_drive.specs.Scripts.{Lists}
 use Rattle.xif_signals.specs.declared.bus.Bus.{Bus}
 use Rattle.xif_session.specs.Facts.{issue_key, register_key}
 use Rattle.xif_session.specs.Uses.{last_bus}
-use Rattle.cycle_spec.specs.declared.turn.Turn.{Turn}
 use Rattle.cycle_spec.specs.declared.turn.Transaction.{Transaction}
 use Rattle.cycle_spec.specs.declared.turn.Transactions.{Transactions}
-use Rattle.cycle_spec.specs.Turns.{no_transactions, turn_in, turn_of, begun_in, aged, transactions_with, transactions_after}
-use Rattle.cycle_spec.specs.State.{Engine, new_engine}
+use Rattle.cycle_spec.specs.Turns.{no_transactions, turn_in, turn_of, begun_in, aged, transactions_after}
+use Rattle.cycle_spec.specs.State.{Engine}
 use Rattle.cycle_spec.specs.Engine as spec
-use Rattle.engine_history.specs.Lives.{Life, start_of, lives_of, lives_with}
-use Rattle.engine_history.specs.Runs.{cpu_of, cop_of, input_of, engine_of, IsDriven}
-use Rattle.engine_history.specs.Channels.{Beat, waits_for, waited, begins, begun, turn_for, named_start, owner_in, issue_beats, register_beats}
+use Rattle.engine_history.specs.Lives.{lives_of, lives_with}
+use Rattle.engine_history.specs.Runs.{cpu_of, engine_of, IsDriven}
+use Rattle.engine_history.specs.Channels.{Beat, waits_for, waited, begun, turn_for, named_start, owner_in, issue_beats, register_beats}
 use Rattle.engine_history.proofs.Fields.{start_named, started, IsTold}
-use Rattle.engine_history.proofs.Kept.{sound, told, on_channel}
+use Rattle.engine_history.proofs.Kept.{sound, told}
 
 -- the transaction that waits after these cycles
 abbrev waiting_in : Option ℕ → (ready : Bool) → List Beat → Option Transaction

@@ -1,28 +1,24 @@
 -- What the units make of the uses in a cycle is what the history tells after it.
-use Rattle.std.proofs.Common.{if◌then◌else◌, ◌≡◌, ◌⊎◌, inl, inr, ◌++◌, ◌+◌, ◌==◌, ◌<◌, ◌&&◌, ◌||◌, not, ℕ, Bool, true, false, Option, Some, None, IfSome, List, [], ◌∷◌, map, length, refl, sym, ap, ap₂, ◌∙◌, subst, arith}
+use Rattle.std.proofs.Common.{if◌then◌else◌, ◌≡◌, ◌++◌, ◌==◌, ◌&&◌, ◌||◌, not, ℕ, Bool, true, false, Option, Some, None, IfSome, List, [], ◌∷◌, refl, sym, ap, ap₂, ◌∙◌, subst}
 use Rattle.std.specs.Prelude.{is_none, is_some}
 use Rattle.std.specs.Option.{option_map, option_map_or}
-use Rattle.std.proofs.lemmas.Bool.{eqb-true, eq-eqb, ne_eqb}
+use Rattle.std.proofs.lemmas.Bool.{eqb-true}
 use Rattle.xif_base.specs.declared.params.Key.{Key}
 use Rattle.xif_base.specs.declared.params.Params.{Params}
-use Rattle.xif_base.specs.Params.{IsInRange}
 use Rattle.coproc_config.specs.declared.accept.Hit.{Hit}
 use Rattle.coproc_config.specs.Set.{UnitTable}
 use Rattle.coproc_config.specs.Accept.{hit_of}
-use Rattle.coproc_config.specs.Apply.{Outcome}
 use Rattle.xif_session.specs.Facts.{same_key, verdict_of}
 use Rattle.xif_session.specs.Facts as facts
-use Rattle.xif_session.proofs.Options.{both-true, and-true, no_true}
+use Rattle.xif_session.proofs.Options.{both-true}
 use Rattle.cycle_spec.specs.declared.use_of.Use.{Use}
-use Rattle.cycle_spec.specs.Engine.{register_read_of, is_complete, is_next, outcome_by, outcome_of, with_ready, units_behind}
-use Rattle.cycle_spec.specs.Engine as spec
-use Rattle.engine_history.specs.Lives.{Life, Answer, Operands, Verdict, is_accepted, is_killed, is_released}
-use Rattle.engine_history.specs.Told.{hit_by, hit_told, decision_told, use_told, others, latest_uses, later, answer_cycle, reads, operands_cycle, release_by, complete_cycle, counts, all_complete, ready_cycle, is_ready, outcome_told, units_told, result_told, whole_use, whole_uses}
+use Rattle.cycle_spec.specs.Engine.{register_read_of, is_complete, is_next}
+use Rattle.engine_history.specs.Lives.{Life, Answer, Operands, Verdict, is_accepted, is_killed}
+use Rattle.engine_history.specs.Told.{hit_by, hit_told, decision_told, use_told, others, latest_uses, later, answer_cycle, operands_cycle, release_by, complete_cycle, counts, all_complete, ready_cycle, is_ready, result_told}
 use Rattle.engine_history.proofs.Lists.{any-push}
-use Rattle.engine_history.proofs.Settle.{waits_in, blocked, is_due, ready_one, push_units, Passed, drop_blocked, drop_units}
-use Rattle.engine_history.proofs.Grown.{Comes, Grew, Old, Each2, Grown, IsLater, later_is, later_some, Same, complete_same, complete_stays}
-use Rattle.engine_history.proofs.Ready.{Decided, Grouped, IsBy, AllBy, counted, IsReady, ready_is, complete_released, ready_stays, ready_comes}
-use Rattle.engine_history.proofs.Lanes.{any_lanes}
+use Rattle.engine_history.proofs.Settle.{waits_in, blocked, is_due, Passed, drop_blocked}
+use Rattle.engine_history.proofs.Grown.{Grew, Old, Each2, later_some, complete_stays}
+use Rattle.engine_history.proofs.Ready.{counted, ready_is}
 
 -- ---- the answers are the engine's
 
@@ -167,9 +163,10 @@ AllOver (l ∷ ls) = Over l.key ls × AllOver ls
 passed_over : (params : Params) (set : List UnitTable) (hart cycle : ℕ) (key : Key) (ls now : List Life) → Each2 (Old cycle) ls now → AllAnswers params set now → Over key ls → Passed hart key (dressed params set ls now)
 passed_over params set hart cycle key [] now e a o = tt
 passed_over params set hart cycle key (l ∷ ls) [] e a o = tt
-passed_over params set hart cycle key (l ∷ ls) (n ∷ now) e a o =
-    (λ k. next_same params set hart n (is_some n.finish) (ready_cycle l ls) (result_told params set l ls) a.0 ∙ go (counts hart n) refl (ap (λ x. same_key x key) (sym e.0.grew.key) ∙ k),
-    passed_over params set hart cycle key ls now e.1 a.1 o.1)
+passed_over params set hart cycle key (l ∷ ls) (n ∷ now) e a o = (
+  λ k. next_same params set hart n (is_some n.finish) (ready_cycle l ls) (result_told params set l ls) a.0 ∙ go (counts hart n) refl (ap (λ x. same_key x key) (sym e.0.grew.key) ∙ k),
+  passed_over params set hart cycle key ls now e.1 a.1 o.1,
+)
   where
     ready : counts hart n ≡ true → same_key l.key key ≡ true → is_ready l ls ≡ true
     ready c k =

@@ -1,12 +1,14 @@
 -- The transactions of a channel, as a list of its cycles tells them. A transaction is for one use,
 -- and goes on until its handshake (CV-X-IF 1.0.0, "Handshake rules").
-use Rattle.std.specs.Prelude.{ℕ, ◌+◌, ◌==◌, ◌&&◌, not, Bool, true, false, if◌then◌else◌, Option, Some, None, List, [], ◌∷◌, drop, length, filter}
-use Rattle.std.specs.Option.{option_map_or}
+use Rattle.std.specs.Prelude.{ℕ, ◌+◌, ◌==◌, ◌&&◌, not, Bool, false, if◌then◌else◌, Option, Some, None, List, [], ◌∷◌, drop, length, filter}
+use Rattle.std.specs.Option.{option_map, option_map_or}
 use Rattle.xif_base.specs.declared.params.Key.{Key}
 use Rattle.xif_signals.specs.declared.bus.Bus.{Bus}
-use Rattle.xif_session.specs.Facts.{issue_key, register_key, is_issued}
+use Rattle.xif_session.specs.Facts.{issue_key, register_key, result_key, is_issued, issue_waits, result_waits}
+use Rattle.xif_session.specs.Uses.{last_bus}
 use Rattle.cycle_spec.specs.declared.turn.Turn.{Turn}
-use Rattle.engine_history.specs.Lives.{Life, start_of, lives_with}
+use Rattle.cycle_spec.specs.declared.turn.Transaction.{Transaction}
+use Rattle.engine_history.specs.Lives.{Life, start_of, lives_of, lives_with}
 
 -- a channel in a cycle: whom it is for, if its valid is 1, by the start of that use; and its ready
 pub record Beat : Type 0 where
@@ -62,7 +64,10 @@ issue_beats (b ∷ session) =
 abbrev pub register_beats : List Bus → List Beat
 register_beats [] = []
 register_beats (b ∷ session) =
-    record { owner = owner_in b.register_valid (register_key b) session b; ready = b.register_ready }
+    record {
+      owner = owner_in b.register_valid (register_key b) session b;
+      ready = b.register_ready;
+    }
     ∷ register_beats session
 
 -- how many issue handshakes accepted a word
@@ -71,3 +76,22 @@ accepts b = is_issued b && b.issue_accept
 
 abbrev pub acceptances : List Bus → ℕ
 acceptances session = length (filter accepts session)
+
+-- ---- which use waits after the last cycle, by its start
+
+abbrev pub owner_of : Option Transaction → Option ℕ
+owner_of found = option_map (λ t. t.owner) found
+
+-- for its answer
+abbrev pub answer_awaited : List Bus → Option ℕ
+answer_awaited session =
+    if issue_waits (last_bus session)
+    then start_of (issue_key (last_bus session)) (lives_of session)
+    else None
+
+-- for its result to be taken
+abbrev pub result_awaited : List Bus → Option ℕ
+result_awaited session =
+    if result_waits (last_bus session)
+    then start_of (result_key (last_bus session)) (lives_of session)
+    else None

@@ -2,7 +2,7 @@
 -- it. A session is a list of buses, one a cycle, the newest first; so is its history. A use is one
 -- instruction that is offered under a key (CV-X-IF 1.0.0, "Identification"). Cycles are counted
 -- from the first one of the session.
-use Rattle.std.specs.Prelude.{ℕ, ◌≡◌, ◌<◌, ◌==◌, ◌&&◌, not, Bool, true, false, if◌then◌else◌, Option, Some, None, is_none, is_some, IfSome, List, [], ◌∷◌, map, find, filter, length}
+use Rattle.std.specs.Prelude.{ℕ, ◌≡◌, ◌<◌, ◌==◌, ◌&&◌, not, Bool, false, if◌then◌else◌, Option, Some, None, is_none, IfSome, List, [], ◌∷◌, map, find, filter, length}
 use Rattle.std.specs.Option.{option_map, option_map_or}
 use Rattle.xif_base.specs.declared.params.Key.{Key}
 use Rattle.xif_signals.specs.declared.bus.Bus.{Bus}

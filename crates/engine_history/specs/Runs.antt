@@ -1,5 +1,5 @@
 -- A run of the engine, by the buses of its session, the newest first.
-use Rattle.std.specs.Prelude.{ℕ, ◌≡◌, List, [], ◌∷◌}
+use Rattle.std.specs.Prelude.{◌≡◌, List, [], ◌∷◌}
 use Rattle.xif_base.specs.declared.params.Params.{Params}
 use Rattle.coproc_config.specs.Set.{UnitTable}
 use Rattle.xif_drive.specs.Scripts.{Lists}
@@ -66,8 +66,14 @@ IsDriven params set script (b ∷ session) =
     (cop_of b ≡ engine_drive (engine_of params set script session) (cpu_of b))
     × IsDriven params set script session
 
--- What the core owes: each use is of a hart that there is, no key is used again while a use of it is
--- in flight, and no use gets its registers twice.
+-- an engine is that of a session, which it drove
+pub record HasRun (params : Params) (set : List UnitTable) (script : Lists) (session : List Bus)
+    (e : Engine) : Type 0 where
+  pub engine_is : e ≡ engine_of params set script session
+  pub driven : IsDriven params set script session
+
+-- What the core owes: each use is of a hart that there is, no key is used again while a use of it
+-- is in flight, and no use gets its registers twice.
 pub record IsOrderly (params : Params) (session : List Bus) : Type 0 where
   pub harts : EachCycle (λ p b. HasHart params b Issue) session
   pub keys : EachCycle (HoldsI2 params) session

@@ -1,5 +1,5 @@
 -- What the history tells of the engine's state.
-use Rattle.std.specs.Prelude.{ℕ, ◌+◌, ◌==◌, ◌&&◌, ◌||◌, not, max, Bool, true, false, if◌then◌else◌, Option, Some, None, is_some, List, [], ◌∷◌, ◌++◌, map, filter}
+use Rattle.std.specs.Prelude.{ℕ, ◌==◌, ◌&&◌, not, max, Bool, false, if◌then◌else◌, Option, Some, None, is_some, List, [], ◌∷◌, ◌++◌, filter}
 use Rattle.std.specs.Option.{option_map, option_map_or}
 use Rattle.xif_base.specs.declared.params.Key.{Key}
 use Rattle.xif_base.specs.declared.params.Params.{Params}
@@ -15,7 +15,7 @@ use Rattle.xif_session.specs.Facts.{same_key, verdict_of}
 use Rattle.xif_session.specs.Uses.{Use as SessionUse}
 use Rattle.cycle_spec.specs.declared.use_of.Use.{Use}
 use Rattle.cycle_spec.specs.Engine.{outcome_by}
-use Rattle.engine_history.specs.Lives.{Life, Answer, Verdict, is_accepted, is_killed, is_released}
+use Rattle.engine_history.specs.Lives.{Life, Answer, Verdict, is_accepted, is_killed}
 
 -- ---- the fields of a use
 
@@ -108,7 +108,7 @@ ready_cycle l older =
 abbrev pub is_ready : Life → (older : List Life) → Bool
 is_ready l older = is_some (ready_cycle l older)
 
--- the cycle with which all uses of a hart that count are ready: `ready_law` says that it is the one
+-- the cycle with which all uses of a hart that count are ready: `uses_law` says that it is the one
 -- with which all of them are complete
 abbrev pub all_ready : (hart : ℕ) → List Life → Option ℕ
 all_ready hart [] = Some 0

@@ -18,4 +18,4 @@
 
 mod laws;
 
-pub use laws::{counts_law, fields_law, history_law, units_law, uses_law};
+pub use laws::{counts_law, fields_law, history_law, run_law, units_law, uses_law};

@@ -22,7 +22,8 @@ pub(crate) struct Older {
 impl Older {
     /// There are no entries.
     pub(crate) fn none() -> Older
-        ensures { (dual_write : Bool) → (registers : List ℕ) → IsOlder dual_write registers [] result }
+        ensures { (dual_write : Bool) → (registers : List ℕ)
+            → IsOlder dual_write registers [] result }
     {
         Older {
             waits: [false; 32],

@@ -1,5 +1,5 @@
 -- What a core drives fits its signals.
-use Rattle.std.specs.Prelude.{◌<◌, ◌^◌, IfSome, slice_index}
+use Rattle.std.specs.Prelude.{◌≡◌, ◌<◌, ◌^◌, IfSome, slice_index}
 use Rattle.std.specs.Option.{option_or}
 use Rattle.xif_base.specs.declared.params.Params.{Params}
 use Rattle.xif_signals.specs.declared.signal.Signal.TheVariants.{IssueHartid, IssueId, IssueInstr, RegisterHartid, RegisterId, RegisterRs0, RegisterRs1, RegisterRs2, RegisterRsValid, CommitHartid, CommitId}
@@ -8,6 +8,8 @@ use Rattle.xif_signals.specs.Signal.{width_of}
 use Rattle.cycle_spec.specs.declared.choices.Choices.{Choices}
 use Rattle.cycle_spec.specs.declared.choices.Presented.{Presented}
 use Rattle.cycle_spec.specs.declared.entry.Entry.{Entry}
+use Rattle.cycle_spec.specs.State.{Core}
+use Rattle.cycle_spec.specs.Choices.{choices}
 
 -- Each field is below 2 to the width of its signal, so it is 0 where the width is 0 (CV-X-IF 1.0.0,
 -- "Parameters").
@@ -44,3 +46,9 @@ pub record AreNamed (P : Entry → Type 0) (ch : Choices) : Type 0 where
   pub offer : IfSome ch.offer P
   pub present : IfSome ch.present (λ x. P x.entry)
   pub commit : IfSome (option_or ch.kill ch.release) P
+
+-- the core does this in a cycle, and what it drives fits its signals
+pub record AreChosen (w : Core) (ch : Choices) : Type 0 where
+  pub same : ch ≡ choices w
+  pub fits : FitsPresent w.params ch
+  pub ids : AreNamed (HasId w.params) ch

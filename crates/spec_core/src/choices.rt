@@ -2,12 +2,12 @@
 ghost use Rattle.std.specs.Prelude.{◌≡◌, if◌then◌else◌, is_some, None};
 ghost use Rattle.cycle_spec.specs.Choices as spec;
 ghost use Rattle.cycle_spec.specs.Flight.{youngest_released};
-ghost use Rattle.spec_core.specs.Drives.{FitsPresent, AreNamed, HasId};
+ghost use Rattle.spec_core.specs.Drives.{FitsPresent, AreChosen};
 
 use crate::commit::{kill_among, release_in};
-use crate::cpu::Core;
 use crate::cut::{either_cut, store_cut};
 use crate::oldest::{retirement_among, stop_at};
+use crate::state::CoreState;
 use cycle_spec::{Choices, Cut, Entry, Executed, Mode};
 use flight_table::{FlightTable, Wanted};
 use inorder_machine::StopCause;
@@ -26,12 +26,10 @@ const NO_CHOICES: Choices = Choices {
     dispatch: false,
 };
 
-impl Core {
+impl CoreState {
     /// What the core does in a cycle.
-    pub(crate) fn choices(&self) -> Choices
-        ensures value { result ≡ spec.choices self.now }
-        ensures fits { FitsPresent self.now.params result }
-        ensures ids { AreNamed (HasId self.now.params) result }
+    pub fn choices(&self) -> Choices
+        ensures { AreChosen self.now result }
     {
         self.choices_in(self.mode)
     }

@@ -6,11 +6,11 @@ ghost use Rattle.cycle_spec.specs.Core as spec;
 ghost use Rattle.cycle_spec.specs.Counts.{IsCountedBy};
 ghost use Rattle.spec_core.specs.Fits.{CanGoOn};
 
-use crate::cpu::Core;
 use crate::dispatch::{add, ahead_after, ahead_behind, dispatch_line, entry_if, free_id_if};
 use crate::retire::{learn, pc_behind, retired_line, store_back, write_back};
+use crate::state::CoreState;
 use crate::steps::settle;
-use cycle_spec::{CycleLog, Mode, Presented, transactions_after};
+use cycle_spec::{Choices, CycleLog, Mode, Presented, transactions_after};
 use inorder_machine::StopCause;
 use xif_drive::Predictor;
 use xif_signals::Bus;
@@ -18,10 +18,16 @@ use xif_signals::Bus;
 /// The result channel has one transaction at a time, and the core doesn't ask for whom it is.
 pub(crate) const RESULT_OWNER: u64 = 0;
 
-impl Core {
-    /// The end of a cycle. The predictor is asked before it learns.
-    pub fn clock<P: Predictor>(&mut self, bus: &Bus, predictor: &mut P) -> CycleLog
-        requires { CanGoOn self.old }
+impl CoreState {
+    /// The end of a cycle, in which the core does this. The predictor is asked before it learns.
+    pub fn clock<P: Predictor>(
+        &mut self,
+        choices: &Choices,
+        bus: &Bus,
+        predictor: &mut P,
+    ) -> CycleLog
+        requires chosen { choices.now ≡ choose.choices self.old }
+        requires counts { CanGoOn self.old }
         ensures log { result ≡ spec.core_log (P.answer predictor.old) self.old }
         ensures after { self.new ≡ spec.core_clock (P.answer predictor.old) self.old bus.now }
         ensures learnt { predictor.new
@@ -31,9 +37,8 @@ impl Core {
         ensures counted { (cycle : ℕ) → IsCountedBy cycle self.old
             → IsCountedBy (cycle + 1) self.new }
     {
-        let choices = self.choices();
         let id = free_id_if(&self.table, choices.dispatch);
-        settle(&mut self.table, &choices, bus);
+        settle(&mut self.table, choices, bus);
         write_back(&mut self.registers, choices.retire);
         store_back(&mut self.memory, choices.retire);
         let ahead = ahead_behind(choices.cut, self.ahead);

@@ -1,65 +1,44 @@
-//! The core and its calls but for the cycle's.
-ghost use Rattle.std.specs.Prelude.{◌≡◌, ◌<◌, ◌≤◌, ◌^◌, IfOk};
+//! The core.
+ghost use Rattle.std.specs.Prelude.{◌≡◌, ◌<◌, ◌≤◌, ◌+◌, ◌^◌, ℕ, IfOk};
 ghost use Rattle.xif_base.specs.Params.{IsInRange};
 ghost use Rattle.xif_drive.specs.Scripts.{IsLawful};
 ghost use Rattle.cycle_spec.specs.State.{new_core};
-ghost use Rattle.cycle_spec.specs.Core.{drain_begun, resumed};
+ghost use Rattle.cycle_spec.specs.Choices as choose;
+ghost use Rattle.cycle_spec.specs.Core as spec;
+ghost use Rattle.cycle_spec.specs.Counts.{IsCountedBy};
 ghost use Rattle.cycle_spec.specs.Run.{is_empty};
+ghost use Rattle.spec_core.specs.Fits.{CanGoOn};
+ghost use Rattle.spec_core.specs.Drives.{FitsCpuOut};
 
-use cycle_spec::{Mode, NO_TRANSACTIONS, Transactions};
-use flight_table::{FlightTable, Registers};
+use crate::drive::cpu_out;
+use crate::state::CoreState;
+use cycle_spec::{Choices, CycleLog};
+use flight_table::Registers;
 use inorder_machine::StopCause;
 use std::alloc::Global;
 use std::marker::Model;
 use xif_base::{NoMemory, Params};
-use xif_drive::Script;
+use xif_drive::{Predictor, Script};
 use xif_image::Memory;
+use xif_signals::{Bus, CopOut, CpuIn, CpuOut};
 
 /// The speculative core. It has one hart, 0.
 #[derive(Drop)]
 pub struct Core {
-    pub(crate) params: Params,
-    pub(crate) script: Script,
-    /// How many instructions may be in flight.
-    pub(crate) window: u8,
-    pub(crate) table: FlightTable,
-    /// Registers and memory as the retired instructions left them.
-    pub(crate) registers: Registers,
-    pub(crate) memory: Memory,
-    /// The address of the next instruction to retire.
-    pub(crate) pc: u32,
-    /// The address of the next instruction to be dispatched.
-    pub(crate) ahead: u32,
-    pub(crate) stopped: Option<StopCause>,
-    pub(crate) mode: Mode,
-    pub(crate) register_turns: Transactions,
-    pub(crate) result_turns: Transactions,
+    state: CoreState,
+    /// What it does in the next cycle.
+    planned: Choices,
 }
 
 impl Model for Core {
     ghost use Rattle.cycle_spec.specs.State.{Core as State};
-    ghost use Rattle.spec_core.specs.Fits.{IsSetUp, IsTable, AreEntries};
+    ghost use Rattle.spec_core.specs.Drives.{AreChosen};
 
     ghost Value = { State };
 
-    ghost view = { λ c. record {
-      params = c.params;
-      script = c.script;
-      window = c.window;
-      flight = c.table.entries;
-      next_seq = c.table.next_seq;
-      registers = c.registers;
-      memory = c.memory;
-      pc = c.pc;
-      ahead = c.ahead;
-      stopped = c.stopped;
-      mode = c.mode;
-      register_turns = c.register_turns;
-      result_turns = c.result_turns;
-    } };
+    ghost view = { λ c. c.state };
 
-    ghost invariant = { λ c. IsSetUp c.params c.script c.window
-        × (IsTable c.params c.window c.table × AreEntries c.params c.memory c.table.entries) };
+    ghost invariant = { λ c. AreChosen c.state c.planned };
 }
 
 impl Core {
@@ -81,70 +60,93 @@ impl Core {
         ensures { IfOk result (λ core. core
             ≡ new_core params.now script.now window memory entry) }
     {
-        Ok(Core {
-            params: *params,
-            script: script.copy(alloc)?,
-            window,
-            table: FlightTable::new(alloc, window, params)?,
-            registers: Registers::new(),
-            memory,
-            pc: entry,
-            ahead: entry,
-            stopped: None,
-            mode: Mode::Running,
-            register_turns: NO_TRANSACTIONS,
-            result_turns: NO_TRANSACTIONS,
-        })
+        let state = CoreState::new(alloc, params, script, window, memory, entry)?;
+        let planned = state.choices();
+        Ok(Core { state, planned })
+    }
+
+    /// What the core drives in a cycle, but for the result channel.
+    pub fn drive(&self) -> CpuOut
+        ensures value { result ≡ spec.core_drive self.now }
+        ensures fits { FitsCpuOut self.now.params result }
+    {
+        cpu_out(&self.planned)
+    }
+
+    /// Whether the core takes the result that the coprocessors offer: once the transaction has
+    /// waited for its delay (CV-X-IF 1.0.0, "Result interface").
+    pub fn accepts(&self, cop: &CopOut) -> CpuIn
+        ensures { result ≡ spec.core_accepts self.now cop.now }
+    {
+        self.state.accepts(cop)
+    }
+
+    /// The end of a cycle. The predictor is asked before it learns.
+    pub fn clock<P: Predictor>(&mut self, bus: &Bus, predictor: &mut P) -> CycleLog
+        requires { CanGoOn self.old }
+        ensures log { result ≡ spec.core_log (P.answer predictor.old) self.old }
+        ensures after { self.new ≡ spec.core_clock (P.answer predictor.old) self.old bus.now }
+        ensures learnt { predictor.new
+            ≡ spec.learnt P.after (choose.choices self.old).retire predictor.old }
+
+        // No count is above that of the cycles.
+        ensures counted { (cycle : ℕ) → IsCountedBy cycle self.old
+            → IsCountedBy (cycle + 1) self.new }
+    {
+        let log = self.state.clock(&self.planned, bus, predictor);
+        self.planned = self.state.choices();
+        log
     }
 
     /// A drain begins with the next cycle: what no commit released is dropped, and the rest
     /// retires.
     pub fn begin_drain(&mut self)
-        ensures { self.new ≡ drain_begun self.old }
+        ensures { self.new ≡ spec.drain_begun self.old }
     {
-        self.mode = Mode::DrainBegins;
+        self.state.begin_drain();
+        self.planned = self.state.choices();
     }
 
     /// After a drain: the core runs on from the next instruction to retire.
     pub fn resume(&mut self)
-        ensures { self.new ≡ resumed self.old }
+        ensures { self.new ≡ spec.resumed self.old }
     {
-        self.mode = Mode::Running;
-        self.ahead = self.pc;
+        self.state.resume();
+        self.planned = self.state.choices();
     }
 
     /// Why the machine stopped, if it did.
     pub fn stopped(&self) -> Option<StopCause>
         ensures { result ≡ self.now.stopped }
     {
-        self.stopped
+        self.state.stopped
     }
 
     /// Whether nothing is in flight.
     pub fn empty(&self) -> bool
         ensures { result ≡ is_empty self.now }
     {
-        self.table.len() == 0
+        self.state.empty()
     }
 
     /// The address of the next instruction to retire.
     pub fn pc(&self) -> u32
         ensures { result ≡ self.now.pc }
     {
-        self.pc
+        self.state.pc
     }
 
     /// The registers as the retired instructions left them.
     pub fn registers(&self) -> &Registers
         ensures { result.now ≡ self.now.registers }
     {
-        &self.registers
+        &self.state.registers
     }
 
     /// The memory as the retired instructions left it.
     pub fn memory(&self) -> &Memory
         ensures { result.now ≡ self.now.memory }
     {
-        &self.memory
+        &self.state.memory
     }
 }

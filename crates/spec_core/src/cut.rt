@@ -5,7 +5,7 @@ ghost use Rattle.std.specs.List.{list_any};
 ghost use Rattle.cycle_spec.specs.Choices as spec;
 
 use crate::control::is_control;
-use crate::cpu::Core;
+use crate::state::CoreState;
 use cycle_spec::{Cut, Entry, Executed};
 use flight_table::FlightTable;
 use inorder_machine::{Stepped, Store};
@@ -72,7 +72,7 @@ fn is_in_word(pc: u32, address: u64) -> bool
     (address + ADDRESSES - u64::from(pc)) % ADDRESSES < 4
 }
 
-impl Core {
+impl CoreState {
     /// The control transfer that executes goes elsewhere than was predicted. What is younger is
     /// dropped.
     pub(crate) fn control_cut(&self, execute: Option<Executed>) -> Option<Cut>

@@ -2,22 +2,13 @@
 ghost use Rattle.std.specs.Prelude.{◌≡◌, ◌<◌, ◌^◌};
 ghost use Rattle.std.specs.Option.{option_or};
 ghost use Rattle.cycle_spec.specs.Core as spec;
-ghost use Rattle.spec_core.specs.Drives.{FitsCpuOut};
 
 use crate::clock::RESULT_OWNER;
-use crate::cpu::Core;
+use crate::state::CoreState;
 use cycle_spec::{Choices, Entry, Presented, turn_of};
 use xif_signals::{CopOut, CpuIn, CpuOut};
 
-impl Core {
-    /// What the core drives in a cycle, but for the result channel.
-    pub fn drive(&self) -> CpuOut
-        ensures value { result ≡ spec.core_drive self.now }
-        ensures fits { FitsCpuOut self.now.params result }
-    {
-        cpu_out(&self.choices())
-    }
-
+impl CoreState {
     /// Whether the core takes the result that the coprocessors offer: once the transaction has
     /// waited for its delay (CV-X-IF 1.0.0, "Result interface").
     pub fn accepts(&self, cop: &CopOut) -> CpuIn
@@ -31,8 +22,9 @@ impl Core {
     }
 }
 
-/// The signals of what is chosen. The fields of a channel whose valid is 0 are 0.
-fn cpu_out(choices: &Choices) -> CpuOut
+/// What the core drives where it does this, but for the result channel. The fields of a channel whose
+/// valid is 0 are 0.
+pub fn cpu_out(choices: &Choices) -> CpuOut
     ensures value { result ≡ spec.cpu_out choices.now }
     ensures word { result.issue_instr < 2 ^ 32 }
 {

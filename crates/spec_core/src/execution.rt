@@ -3,12 +3,12 @@ ghost use Rattle.std.specs.Prelude.{◌≡◌, take};
 ghost use Rattle.cycle_spec.specs.Choices as spec;
 ghost use Rattle.cycle_spec.specs.Flight as flight;
 
-use crate::cpu::Core;
+use crate::state::CoreState;
 use cycle_spec::{Entry, EntryKind, Executed, Operand};
 use inorder_machine::{Stepped, execute};
 use rv32_table::Instr;
 
-impl Core {
+impl CoreState {
     /// The oldest of the `count` oldest entries that may execute, and what it does.
     pub(crate) fn execution(&self, count: u8) -> Option<Executed>
         ensures { result ≡ spec.execution self.now (take count self.now.flight) }

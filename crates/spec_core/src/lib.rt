@@ -12,7 +12,8 @@
 //! `clock` is `core_clock` with `core_log`. Here `specs/Fits.antt` says how far a core can count.
 //!
 //! All choices of a cycle are made from the state at its start (choices.rt), and then one small
-//! change after the other is made by them (steps.rt, retire.rt, dispatch.rt, clock.rt).
+//! change after the other is made by them (steps.rt, retire.rt, dispatch.rt, clock.rt). A [`Core`]
+//! keeps them beside the state (state.rt), so that they are made once a cycle.
 #![tactic(auto)]
 
 mod choices;
@@ -27,6 +28,7 @@ mod execution;
 mod oldest;
 mod present;
 mod retire;
+mod state;
 mod steps;
 
 pub use cpu::Core;

@@ -8,15 +8,15 @@ ghost use Rattle.cycle_spec.specs.Choices as spec;
 ghost use Rattle.cycle_spec.specs.Flight as flight;
 ghost use Rattle.spec_core.specs.Drives.{FitsPresented};
 
-use crate::cpu::Core;
 use crate::execution::value_or_zero;
+use crate::state::CoreState;
 use cycle_spec::{Entry, Operand, Presented, turn_of};
 use flight_table::Wanted;
 use inorder_machine::{Half, half_register};
 use rv32_table::rs_field;
 use xif_base::{Params, ReadFlags};
 
-impl Core {
+impl CoreState {
     /// What the register interface carries, with this word on the issue interface, and for one of
     /// the `count` oldest entries.
     pub(crate) fn present_in(&self, offer: Option<Entry>, count: u8) -> Option<Presented>

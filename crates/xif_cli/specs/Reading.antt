@@ -6,7 +6,7 @@ use Rattle.xif_base.specs.Files.{Files}
 use Rattle.xif_base.specs.declared.outside.Which.{Which}
 use Rattle.xif_base.specs.declared.outside.Which.TheVariants as which
 use Rattle.xif_cli.specs.declared.status.Status.{Status}
-use Rattle.xif_cli.specs.declared.status.Status.TheVariants.{Done, Illegal, ReadFault, WriteFault, Job, Image, Vcd, Map, TooBig, NoMemory, Unbuilt}
+use Rattle.xif_cli.specs.declared.status.Status.TheVariants.{Done, Illegal, ReadFault, WriteFault, Job, Image, Vcd, Map, TooBig, NoMemory}
 use Rattle.xif_cli.specs.Ending.{IsFaulted, is_job_fault, is_image_fault, can_end}
 use Rattle.xif_cli.specs.Outcome.{Lookup, found, without, is_same}
 use Rattle.xif_cli.specs.Words.{Form}

@@ -139,27 +139,21 @@ fn first(rt: &impl Abort, state: &UnitState) -> u64 {
 }
 
 /// Core and engine, and how many instructions retired.
+#[derive(Drop)]
 struct Pair {
     core: Core,
     engine: Engine,
     retired: u32,
 }
 
-fn pair(rt: &impl Abort, alloc: Global, words: &[u32; 8]) -> Result<Pair, Fail>
+fn new_pair(rt: &impl Abort, alloc: Global, words: &[u32; 8]) -> Result<Pair, Fail>
     ensures { IfOk result (λ pair. (pair.core.params ≡ pair.engine.params)
         × ((pair.engine.params.num_harts ≡ 2)
         × (IsCountedBy pair.engine.cycle pair.core
         × ((pair.engine.cycle ≡ 0) × (pair.retired ≡ 0))))) }
 {
     let setup = setup_of(rt, alloc, words)?;
-    let core = Core::new(
-        alloc,
-        &PARAMS,
-        &setup.script,
-        8,
-        setup.memory,
-        0,
-    )?;
+    let core = Core::new(alloc, &PARAMS, &setup.script, 8, setup.memory, 0)?;
     let engine = Engine::new(alloc, &PARAMS, &setup.set, &setup.script)?;
     Ok(Pair {
         core,
@@ -190,7 +184,7 @@ fn step(pair: &mut Pair)
 /// The drain drops the branch, which has not executed, and the core goes on with it.
 #[test]
 fn a_core_goes_on_after_a_drain(rt: HostRuntime) -> Result<(), Fail> {
-    let mut pair = pair(&rt, rt.alloc(), &BRANCH)?;
+    let mut pair = new_pair(&rt, rt.alloc(), &BRANCH)?;
     step(&mut pair);
     step(&mut pair);
     step(&mut pair);
@@ -215,7 +209,11 @@ fn a_core_goes_on_after_a_drain(rt: HostRuntime) -> Result<(), Fail> {
 fn a_predictor_may_always_be_wrong(rt: HostRuntime) -> Result<(), Fail> {
     let mut text = String::new(rt.alloc());
     let setup = setup_of(&rt, rt.alloc(), &ADDITIONS)?;
-    write_run(&rt, &simulate(rt.alloc(), &setup, &mut Never::new())?, &mut text)?;
+    write_run(
+        &rt,
+        &simulate(rt.alloc(), &setup, &mut Never::new())?,
+        &mut text,
+    )?;
     write_run(&rt, &simulate(rt.alloc(), &setup, &mut Wrong)?, &mut text)?;
     let mut listed = Listed::new(rt.alloc(), &[2])?;
     write_run(&rt, &simulate(rt.alloc(), &setup, &mut listed)?, &mut text)?;

@@ -13,3 +13,9 @@ returns-clause-issue c = λ params set script session d owner. turn_same (engine
 
 pub returns-clause-register : goal.returns-clause-register
 returns-clause-register c = λ params set script session d owner. turn_same (engine_of params set script session).register_turns (register_beats session) (register_counted params set script session d) owner
+
+pub returns-clause-cycle : goal.returns-clause-cycle
+returns-clause-cycle c = λ params set script session d. (told params set script session d).cycle_is
+
+pub returns-clause-waiting : goal.returns-clause-waiting
+returns-clause-waiting c = λ params set script session d. (told params set script session d).owner_is

@@ -7,3 +7,6 @@ returns-clause-uses c = λ params set script session range d o. (orderly_told pa
 
 pub returns-clause-ready : goal.returns-clause-ready
 returns-clause-ready c = λ hart lives. all_are hart lives
+
+pub returns-clause-waiting : goal.returns-clause-waiting
+returns-clause-waiting c = λ params set script session range d o. (orderly_told params set script session range d o).whole_is.waiting_is

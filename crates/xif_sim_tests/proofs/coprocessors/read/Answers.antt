@@ -1,6 +1,6 @@
 use Rattle.std.proofs.Common.{◌≡◌, ◌<◌, Some, slice_get, arith, sym, ap, ◌∙◌}
 use Rattle.coproc_config.proofs.States.{accumulator-below}
-use Rattle.xif_tests.proofs.coprocessors.read.Goals as goal
+use Rattle.xif_sim_tests.proofs.coprocessors.read.Goals as goal
 
 pub get-requires-2 : goal.get-requires-2
 get-requires-2 g c =

@@ -1,6 +1,6 @@
 use Rattle.std.proofs.Common.{◌≡◌, ◌<◌, Some, slice_get, arith, sym, ap, ◌∙◌}
 use Rattle.coproc_config.proofs.States.{accumulator-below, IsStateOf-with_accumulator}
-use Rattle.xif_tests.proofs.coprocessors.write.Goals as goal
+use Rattle.xif_sim_tests.proofs.coprocessors.write.Goals as goal
 
 pub put-requires : goal.put-requires
 put-requires g c =

@@ -4,7 +4,7 @@ use Rattle.cycle_spec.specs.declared.choices.Presented.{Presented}
 use Rattle.cycle_spec.specs.State.{Core}
 use Rattle.spec_core.specs.Drives.{FitsPresented}
 use Rattle.spec_core.proofs.Widths.{third}
-use Rattle.spec_core.proofs.cpu.Core.presentation_of.Goals as goal
+use Rattle.spec_core.proofs.state.CoreState.presentation_of.Goals as goal
 
 pub returns-clause-fits : goal.returns-clause-fits
 returns-clause-fits c =
