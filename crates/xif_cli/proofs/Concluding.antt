@@ -1,8 +1,8 @@
 -- How a command concludes: by a refusal, or by what it writes and prints behind what it read.
-use Rattle.std.proofs.Common.{◌≡◌, ◌⊎◌, inl, inr, ◌≤◌, ℕ, List, [], Option, Some, None, Result, Ok, Err, refl, sym, ap, subst, ◌∙◌, arith}
+use Rattle.std.proofs.Common.{◌≡◌, ◌⊎◌, inl, inr, ℕ, List, [], Option, Some, None, Result, Ok, Err, refl, sym, ap, subst, ◌∙◌, arith}
 use Rattle.std.specs.Option.{option_map}
 use Rattle.std.specs.Prelude.{IsTrue}
-use Rattle.xif_base.specs.Faults.{Rose, CountsFaults, OnlyReads}
+use Rattle.xif_base.specs.Faults.{Rose, CountsFaults}
 use Rattle.xif_base.specs.Files.{Files}
 use Rattle.xif_base.specs.Output.{grown, GrowsByFront}
 use Rattle.xif_base.specs.declared.outside.Which.{Which}
@@ -16,9 +16,9 @@ use Rattle.xif_cli.specs.declared.status.Status.TheVariants.{Done, Illegal, Usag
 use Rattle.xif_cli.specs.Afterwards.{IsDone, StopsAt, IsBrokenOff}
 use Rattle.xif_cli.specs.Concluding.{IsWriteFail, Delivers, Concludes}
 use Rattle.xif_cli.specs.Ending.{IsFaulted, IsFaultedAt, IsRefusalOfContent, IsRefusal}
-use Rattle.xif_cli.specs.Outcome.{Lookup, Answer, end_status, found, without}
+use Rattle.xif_cli.specs.Outcome.{Lookup, Answer, end_status, found}
 use Rattle.xif_cli.specs.Printing.{IsPrintFail}
-use Rattle.xif_cli.specs.Reading.{Ends, IsReadFault, can_refuse}
+use Rattle.xif_cli.specs.Reading.{Ends, can_refuse}
 use Rattle.xif_cli.specs.Words.{Form}
 
 -- ---- statuses
@@ -208,7 +208,7 @@ module _ {S O : Type 0} {files : S → Option Files} {fetch_faults write_faults 
       let same_writes = ends.only_reads.same_writes in
       let says = ends.only_reads.counts.stays_faultless in
       let later : IsFaulted (faultless mid) (write_faults mid) (write_faults new) → IsFaulted (faultless old) (write_faults old) (write_faults new) =
-          λ fault. (subst (λ n. Rose n (write_faults new)) same_writes fault.0, λ said. fault.1 (says said)) in
+      λ fault. (subst (λ n. Rose n (write_faults new)) same_writes fault.0, λ said. fault.1 (says said)) in
       let fetched : fetch_faults mid ≡ fetch_faults old = elim ends.uncounted [ inl same ↦ same | inr fault ↦ absurd (not_both answer (ReadFault fault.0) fault.1) ] in
       record {
         output = λ end e m told. record {

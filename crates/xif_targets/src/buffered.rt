@@ -14,11 +14,7 @@ const PENDING_LIMIT: usize = 65_536;
 const CAPACITY: usize = 66_560;
 
 /// Makes a file empty, or creates it, and returns a buffer for its bytes.
-pub fn start_file<S: Shelf>(
-    alloc: Global,
-    shelf: &mut S,
-    name: &str,
-) -> Result<Vec<u8>, WriteFail>
+pub fn start_file<S: Shelf>(alloc: Global, shelf: &mut S, name: &str) -> Result<Vec<u8>, WriteFail>
     ensures growing { IfOk result (λ buffer.
         IsGrowing (S.files shelf.old) (S.files shelf.new) name.now buffer.items []) }
     ensures uncounted { OnOk result (IsUncounted S.fetch_faults S.write_faults S.faultless

@@ -1,8 +1,7 @@
-use Rattle.std.proofs.Common.{◌≡◌, inl, inr, false, Ok, Err, map, string_bytes, subst, ap, sym, ◌∙◌}
-use Rattle.xif_base.specs.Faults.{OnlyReads}
-use Rattle.xif_cli.specs.Ending.{Means, is_built, has_targets}
-use Rattle.xif_cli.specs.Outcome.{Lookup, Answer, command_outcome, found}
-use Rattle.xif_cli.specs.Words.{Form, IsCommand, form_of}
+use Rattle.std.proofs.Common.{◌≡◌, inl, inr, false, Ok, Err, map, string_bytes, subst}
+use Rattle.xif_cli.specs.Ending.{is_built, has_targets}
+use Rattle.xif_cli.specs.Outcome.{command_outcome, found}
+use Rattle.xif_cli.specs.Words.{form_of}
 use Rattle.xif_cli.proofs.Concluding.{done_so, broken_so}
 use Rattle.xif_cli.proofs.Forms.{one_form}
 use Rattle.xif_cli.proofs.program.xif.Goals as goal
