@@ -25,7 +25,7 @@ use Rattle.cycle_paired.proofs.Carrying.{Carries}
 use Rattle.cycle_paired.proofs.Facts.{Joint}
 use Rattle.cycle_paired.proofs.Choosing.{Sound}
 use Rattle.cycle_paired.proofs.Lasting.{carried-at, late-decided, late-result, late-executed, late-retired, result_entries, result_uses, waiting_after}
-use Rattle.cycle_paired.proofs.Cycling.{cpu_for, answers, gives, half_entries, half_uses, Half, result_write}
+use Rattle.cycle_paired.proofs.Cycling.{cpu_for, answers, gives, half_entries, half_uses, half, result_write}
 use Rattle.cycle_paired.proofs.Closing.{bus_for}
 use Rattle.cycle_paired.proofs.Same.{settled-is}
 use Rattle.pace_laws.specs.Measure.{rest, take_turn, offer_rest, wait_of, is_over}
