@@ -158,13 +158,13 @@ shown-after start hart retired answer m ch input w range k so ct dis sh =
     let S6 = Shows x start hart left es6 us5 r.to in
     let S7 = Shows x start hart left7 es7 us5 r.to in
     let S8 = Shows x start hart left7 es8 us5 at8 in
-    let R9 = Ready x start hart h.answered (with_units left7 units) es8 us9 at8 in
+    let IsReady = Ready x start hart h.answered (with_units left7 units) es8 us9 at8 in
     let end = λ (d : ch.dispatch ≡ true). r.ends (dis d) (sh.leads (dis d)) in
     next x S5 Done v1 (resulting x start hart left at v1 n id (e.cycle + 1) h.answered es4 us4 o ready range l4.joint carries half1.shows) (λ v2 s5.
     next x S6 Done v2 (executing c e.set start hart left at r.to v2 base es5 us5 ch.execute range refl refl wide5 l5.joint.kept.pairs l5.execs r.runs s5) (λ v3 s6.
     next x S7 Done v3 (retiring x start hart left r.to v3 c ch dual es6 us5 ch.retire range wide6 ct.retire s6) (λ v4 s7.
     next x S8 Done v4 (dispatching x start hart left7 r.to v4 answer c ch es7 us5 ch.dispatch range (memory-is ch.retire left) end s7) (λ v5 s8.
-    next x R9 Done v5 (in-harts x start hart left7 at8 v5 e.cycle h.answered es8 0 hart e.units us5 range pairs8 last.entries zero_first
+    next x IsReady Done v5 (in-harts x start hart left7 at8 v5 e.cycle h.answered es8 0 hart e.units us5 range pairs8 last.entries zero_first
     (record { shows = subst (λ z. Shows x start hart z es8 us5 at8 v5) (sym (left-same ch.retire left)) s8; uses = uses8 })) (λ v6 s9.
     stays x Done v6 (record {
       at = at8;

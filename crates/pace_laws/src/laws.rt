@@ -13,8 +13,8 @@ ghost use Rattle.pace_laws.specs.Measure.{measure};
 
 /// In every state that a run reaches, the measure of what the oldest instruction waits for is at
 /// most seven delays and seven cycles. It falls in each cycle in which nothing retires and nothing
-/// stops the machine, whatever the predictor answers, also where instructions are cut. In a drain it
-/// falls, or fewer instructions are in flight.
+/// stops the machine, whatever the predictor answers, also where instructions are cut. In a drain
+/// it falls, or fewer instructions are in flight.
 pub fn measure_law()
     ensures bound { (setup : Setup) (m : Machines) → IsLawful setup →
         Reached 0 (new_machines setup) m →

@@ -114,7 +114,7 @@ impl TraceFile {
     }
 }
 
-/// A piece that couldn't be made for want of memory is not written.
+/// A piece that couldn't be made, since it is out of memory, is not written.
 fn or_fail(piece: Result<Vec<u8>, NoMemory>) -> Result<Vec<u8>, WriteFail>
     ensures ok { IfOk result (λ bytes. piece ≡ Ok bytes) }
     ensures err { IfErr result (λ fail. (fail ≡ WriteFail.NoMemory) × IsErr piece) }
