@@ -1,5 +1,5 @@
 -- What a cycle chooses, by whether the core runs.
-use Rattle.std.proofs.Common.{◌≡◌, ◌<◌, ◌≤◌, ◌&&◌, ◌||◌, ◌+◌, ◌-◌, ◌%◌, ◌^◌, ◌++◌, ℕ, zero, suc, Bool, true, false, cond, not, List, [], ◌∷◌, map, length, drop, Option, Some, None, refl, sym, ap, ◌∙◌, subst, arith}
+use Rattle.std.proofs.Common.{◌≡◌, ◌<◌, ◌&&◌, ◌+◌, ◌-◌, ◌^◌, ◌++◌, ℕ, zero, suc, Bool, true, false, cond, not, List, [], ◌∷◌, map, length, drop, Option, Some, None, refl, sym, ap, ◌∙◌, subst, arith}
 use Rattle.std.specs.Prelude.{is_some, is_none, nat_lt}
 use Rattle.std.specs.Option.{option_or, option_map}
 use Rattle.std.specs.List.{list_any, range_with_len}
@@ -19,7 +19,7 @@ use Rattle.cycle_spec.specs.State.{Core}
 use Rattle.cycle_spec.specs.Choices.{stop_at, retirement, execution, is_in_word, is_hit, is_any_hit, store_cut, control_cut, choices_running, choices_by, choices_in, choices}
 use Rattle.cycle_spec.specs.Core.{line_of}
 use Rattle.cycle_lists.proofs.Tests.{and-left, and-right, not-in, some-is}
-use Rattle.cycle_lists.proofs.Places.{AnyAt, any-at}
+use Rattle.cycle_lists.proofs.Places.{any-at}
 use Rattle.eager_laws.specs.Flights.{Told, told_of}
 use Rattle.eager_laws.specs.Eager.{Touches, IsCutByStore}
 use Rattle.eager_laws.proofs.Views.{told-append}
@@ -127,7 +127,7 @@ touches store e h =
     let a = any-at (λ k. is_in_word e.pc (store.addr + k)) (range_with_len 0 store.width) h in
     record {
       byte = a.one;
-      of_store = below 0 store.width a.front a.one a.back a.here;
+      of_store = let less = below 0 store.width a.front a.one a.back a.here in omega (arith, less);
       place = wrapped (store.addr + a.one + 2 ^ 32 - e.pc);
       of_word = ltb-true (wrapped (store.addr + a.one + 2 ^ 32 - e.pc)) 4 a.passes;
       same = λ small. in-word e.pc (store.addr + a.one) small;

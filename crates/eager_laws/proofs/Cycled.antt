@@ -1,12 +1,11 @@
 -- Each cycle is eager.
-use Rattle.std.proofs.Common.{◌≡◌, ◌<◌, ◌≤◌, ◌⊎◌, inl, inr, ℕ, Bool, true, false, cond, not, List, [], ◌∷◌, map, length, Option, Some, None, refl, sym, ap, ◌∙◌, subst, arith}
+use Rattle.std.proofs.Common.{◌≡◌, ◌<◌, ◌≤◌, ◌⊎◌, inl, inr, ℕ, Bool, true, false, cond, not, List, ◌∷◌, map, length, Option, Some, None, refl, sym, ap, ◌∙◌, subst, arith}
 use Rattle.std.specs.Prelude.{is_some, IsSome, IsSomeAnd, find}
 use Rattle.std.specs.Option.{option_map}
 use Rattle.std.specs.List.{list_any, cons_option}
 use Rattle.xif_base.specs.Params.{IsInRange}
 use Rattle.xif_image.specs.Region.{Region, word_at}
 use Rattle.inorder_machine.specs.declared.line.Retire.{Retire}
-use Rattle.inorder_machine.specs.declared.stop.StopCause.{StopCause}
 use Rattle.inorder_machine.specs.Machine.{State}
 use Rattle.inorder_machine.specs.After.{after}
 use Rattle.cycle_spec.specs.declared.choices.Mode.TheVariants.{Running}
@@ -32,8 +31,8 @@ use Rattle.ahead_laws.proofs.Walks.{walked-each}
 use Rattle.cycle_events.proofs.Moving.{to-entries}
 use Rattle.cycle_refines.specs.RefinesInOrder.{extension_in, first_state}
 use Rattle.cycle_refines.proofs.Running.{retired_in, Goes, shown-in, goes-on}
-use Rattle.eager_laws.specs.Flights.{Told, retired_by, awaits, flight_after, told_of}
-use Rattle.eager_laws.specs.Eager.{IsRunning, StopsAlong, DispatchIsEager, OfferIsEager, IsCutByStore, IsCutByTransfer, IsEager, tells_stop, address_after}
+use Rattle.eager_laws.specs.Flights.{Told, retired_by, InFlight, awaits, flight_after, told_of}
+use Rattle.eager_laws.specs.Eager.{IsRunning, StopsAlong, IsCutByStore, IsCutByTransfer, IsEager, tells_stop}
 use Rattle.eager_laws.proofs.Views.{Tells, find-told, told-length, dispatch-word}
 use Rattle.eager_laws.proofs.Following.{told_by, Follows}
 use Rattle.eager_laws.proofs.Choosing.{Way, Runs, Stops, Drains, way, room-of, dispatch-when, OfStore, OfTransfer, Origin, cut-from, store-cut}
@@ -196,7 +195,7 @@ eager-at meaning s first p range g f phase =
       cut = λ c e. cuts k o c e;
     }
   where
-    flight : List _
+    flight : List InFlight
     flight = flight_after meaning first (told_by p)
 
     at : ℕ
@@ -241,7 +240,7 @@ eager-at meaning s first p range g f phase =
     runs-by (Stops cause z none q) d = absurd (not-both (choices p.machines.core).dispatch q.dispatch d)
     runs-by (Drains r z q) d = absurd (not-both (choices p.machines.core).dispatch q.dispatch d)
 
-    comes : Scene s p → Way p.machines.core → IsRunning s (told_by p) (cycle_in meaning p) → (cycle_in meaning p).log.cut ≡ None → length flight < s.window → IsSome (cycle_in meaning p).log.dispatched ⊎ StopsAlong (extension_in s) _ flight
+    comes : (k : Scene s p) → Way p.machines.core → IsRunning s (told_by p) (cycle_in meaning p) → (cycle_in meaning p).log.cut ≡ None → length flight < s.window → IsSome (cycle_in meaning p).log.dispatched ⊎ StopsAlong (extension_in s) k.now flight
     comes k o r c l = go (list_any is_stopping p.machines.core.flight) refl
       where
         room : length p.machines.core.flight < p.machines.core.window

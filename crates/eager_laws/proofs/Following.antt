@@ -1,26 +1,25 @@
 -- What each cycle keeps: what the log and the buses tell is what the core has.
-use Rattle.std.proofs.Common.{◌≡◌, ℕ, Bool, true, false, cond, List, [], ◌∷◌, map, take, length, Option, Some, None, refl, sym, ap, ◌∙◌, subst}
-use Rattle.std.specs.Prelude.{is_some, find}
+use Rattle.std.proofs.Common.{◌≡◌, ℕ, suc, Bool, true, false, cond, List, [], ◌∷◌, map, take, length, Option, Some, None, refl, ap, ◌∙◌, subst}
+use Rattle.std.specs.Prelude.{find}
 use Rattle.std.specs.Option.{option_map}
 use Rattle.std.specs.List.{cons_option}
-use Rattle.inorder_machine.specs.declared.line.Retire.{Retire}
 use Rattle.inorder_machine.specs.declared.stop.StopCause.{StopCause}
 use Rattle.xif_image.specs.Region.{word_at}
 use Rattle.cycle_spec.specs.declared.choices.Mode.{Mode}
 use Rattle.cycle_spec.specs.declared.choices.Mode.TheVariants.{Running, DrainBegins, Draining}
 use Rattle.cycle_spec.specs.declared.entry.Entry.{Entry}
 use Rattle.cycle_spec.specs.declared.log.Cut.{Cut}
-use Rattle.cycle_spec.specs.Flight.{is_control, is_open, youngest_released, free_id}
+use Rattle.cycle_spec.specs.Flight.{is_open, youngest_released, free_id}
 use Rattle.cycle_spec.specs.State.{Core}
 use Rattle.cycle_spec.specs.Choices.{stop_at, retirement, choices_by, choices_in, choices, stay_with}
 use Rattle.cycle_spec.specs.Core.{settled_entries, memory_behind, learnt, ahead_behind, ahead_after, line_of, dispatch_line}
-use Rattle.cycle_spec.specs.Cycle.{bus_at, core_bus_at, cycle, log_at}
+use Rattle.cycle_spec.specs.Cycle.{core_bus_at, cycle, log_at}
 use Rattle.cycle_spec.specs.Run.{Setup, Meaning, Progress, start, next, with_drain}
 use Rattle.cycle_lists.specs.Lists.{Each, Pairs}
 use Rattle.cycle_lists.specs.Order.{Before}
 use Rattle.cycle_lists.proofs.Every.{Each-take}
 use Rattle.cycle_refines.proofs.Running.{retired_in}
-use Rattle.eager_laws.specs.Flights.{Told, cycles_of, retired_by, is_transfer, taught, predictor_after, after_handshake, after_cut, after_drain, after_retirement, after_dispatch, flight_after, told_of}
+use Rattle.eager_laws.specs.Flights.{Told, cycles_of, retired_by, taught, predictor_after, after_handshake, after_cut, after_drain, after_retirement, after_dispatch, flight_after, told_of}
 use Rattle.eager_laws.specs.Eager.{address_by, address_after}
 use Rattle.eager_laws.proofs.Views.{Tells, IsOldest, new_if, told-settled, told-dispatch, predicted-told}
 use Rattle.eager_laws.proofs.Refusing.{Refuses, refuses-settled, refuses-dispatch}
@@ -114,7 +113,7 @@ follows-next meaning s first p t b f =
       retired_is = ap (cons_option log.retired) f.retired_is;
       window = f.window;
       refuses = refuses-dispatch answer w.next_seq (free_id w.flight) pc word ch.dispatch es (refuses-settled ch bus w.flight f.refuses);
-      count = ap (λ n. n + 1) f.count;
+      count = ap suc f.count;
     }
 
 -- ---- before the first cycle, and before a drain

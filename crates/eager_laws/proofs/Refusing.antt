@@ -1,5 +1,5 @@
 -- A refused word is known to stop the machine.
-use Rattle.std.proofs.Common.{◌≡◌, ◌&&◌, ℕ, Bool, true, false, cond, not, List, [], ◌∷◌, map, take, drop, Option, Some, None, refl}
+use Rattle.std.proofs.Common.{◌≡◌, ◌&&◌, ℕ, Bool, true, false, cond, not, List, Option, Some, None, refl}
 use Rattle.std.specs.Prelude.{is_some, find}
 use Rattle.inorder_machine.specs.declared.line.Stepped.{Stepped}
 use Rattle.inorder_machine.specs.declared.line.Stepped.TheVariants.{Retired, Stop}
@@ -13,7 +13,7 @@ use Rattle.cycle_spec.specs.declared.choices.Executed.{Executed}
 use Rattle.cycle_spec.specs.declared.choices.Presented.{Presented}
 use Rattle.cycle_spec.specs.declared.entry.Entry.{Entry}
 use Rattle.cycle_spec.specs.declared.log.Cut.{Cut}
-use Rattle.cycle_spec.specs.Flight.{is_stopping, has_seq, holds_id, with_response, with_sent, with_release, with_result, with_stop, with_outcome}
+use Rattle.cycle_spec.specs.Flight.{is_stopping, has_seq, holds_id, with_response, with_sent, with_release, with_result, with_outcome}
 use Rattle.cycle_spec.specs.Core.{response_on_offer, response_step, sent_on_present, sent_step, release_step, cut_step, drain_step, result_for, result_step, execute_step, retire_step, settled_entries, entry_at, with_dispatch}
 use Rattle.cycle_lists.specs.Lists.{Each}
 use Rattle.cycle_lists.proofs.Every.{Each-map, Each-take, Each-drop, Each-push}

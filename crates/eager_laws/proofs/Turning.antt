@@ -1,5 +1,5 @@
 -- A control transfer that cuts leads, along what is in flight, elsewhere than was predicted.
-use Rattle.std.proofs.Common.{◌≡◌, ◌≢◌, ◌==◌, ◌&&◌, ◌+◌, ◌++◌, ℕ, Bool, true, false, cond, not, List, [], ◌∷◌, map, length, Option, Some, None, refl, sym, ap, ◌∙◌, subst}
+use Rattle.std.proofs.Common.{◌≡◌, ◌≢◌, ◌==◌, ◌&&◌, ◌+◌, ◌++◌, Bool, true, false, cond, not, List, ◌∷◌, map, length, Some, None, refl, sym, ap, ◌∙◌, subst}
 use Rattle.std.proofs.lemmas.Bool.{eqb-false}
 use Rattle.rv32_table.specs.Instr.{sources_of}
 use Rattle.xif_base.specs.Params.{IsInRange}

@@ -2,21 +2,18 @@
 use Rattle.std.proofs.Common.{◌≡◌, ◌≢◌, ◌&&◌, ◌++◌, ℕ, zero, suc, Bool, true, false, cond, List, [], ◌∷◌, map, take, length, Option, Some, None, refl, sym, ap, ◌∙◌, subst, arith}
 use Rattle.std.specs.Prelude.{is_some, is_none, find}
 use Rattle.std.specs.Option.{option_map}
-use Rattle.std.proofs.lemmas.Bool.{eq-eqb, ne_eqb}
-use Rattle.xif_drive.specs.Predictors.{following}
-use Rattle.inorder_machine.specs.declared.line.Retire.{Retire}
+use Rattle.std.proofs.lemmas.Bool.{ne_eqb}
 use Rattle.inorder_machine.specs.declared.line.Stepped.{Stepped}
 use Rattle.inorder_machine.specs.declared.line.Stepped.TheVariants.{Retired, Stop}
-use Rattle.inorder_machine.specs.declared.line.Write.{Write}
 use Rattle.xif_signals.specs.declared.bus.Bus.{Bus}
 use Rattle.xif_session.specs.declared.fact.Response.{Response}
-use Rattle.xif_session.specs.Facts.{is_issued, is_given, is_taken, response_on}
+use Rattle.xif_session.specs.Facts.{is_given, is_taken, response_on}
 use Rattle.cycle_spec.specs.declared.choices.Choices.{Choices}
 use Rattle.cycle_spec.specs.declared.choices.Executed.{Executed}
 use Rattle.cycle_spec.specs.declared.choices.Presented.{Presented}
 use Rattle.cycle_spec.specs.declared.entry.Entry.{Entry}
 use Rattle.cycle_spec.specs.declared.log.Cut.{Cut}
-use Rattle.cycle_spec.specs.Flight.{is_unknown_kind, is_row, is_control_row, is_control, is_open, holds_id, with_response, with_sent, with_release, with_result, with_outcome, kind_at}
+use Rattle.cycle_spec.specs.Flight.{is_unknown_kind, is_control, is_open, holds_id, with_response, with_sent, with_release, with_result, with_outcome, kind_at}
 use Rattle.cycle_spec.specs.Core.{response_on_offer, response_step, sent_on_present, sent_step, release_step, cut_step, drain_step, result_for, result_step, execute_step, retire_step, settled_entries, word_of, word_or_zero, entry_at, with_dispatch, line_of, dispatch_line}
 use Rattle.cycle_spec.specs.Run.{Meaning}
 use Rattle.cycle_lists.specs.Lists.{Each, Pairs}
@@ -26,7 +23,7 @@ use Rattle.cycle_lists.proofs.Places.{first-at, map-at}
 use Rattle.cycle_paired.proofs.Facts.{other-numbers}
 use Rattle.ahead_laws.proofs.Outcomes.{word_of-at}
 use Rattle.ahead_laws.proofs.EntryChanges.{with_response-here, with_response-other}
-use Rattle.eager_laws.specs.Flights.{is_transfer, prediction, InFlight, awaits, answered, after_handshake, after_cut, after_drain, after_retirement, after_dispatch, told_of}
+use Rattle.eager_laws.specs.Flights.{is_transfer, prediction, awaits, answered, after_handshake, after_cut, after_drain, after_retirement, after_dispatch, told_of}
 
 -- the word that is told tells the kind, and whether the instruction is a control transfer
 pub record Tells (e : Entry) : Type 0 where

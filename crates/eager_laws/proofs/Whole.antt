@@ -1,5 +1,5 @@
 -- Whole runs.
-use Rattle.std.proofs.Common.{◌≡◌, ◌<◌, ◌≤◌, ◌||◌, ◌+◌, ℕ, zero, suc, Bool, true, false, List, [], ◌∷◌, map, length, Option, Some, None, refl, sym, ap, ◌∙◌, subst, arith}
+use Rattle.std.proofs.Common.{◌≡◌, ◌<◌, ◌≤◌, ◌||◌, ◌+◌, ℕ, zero, suc, Bool, true, false, map, length, Option, Some, None, refl, sym, ap, ◌∙◌, subst, arith}
 use Rattle.std.specs.Prelude.{is_some}
 use Rattle.xif_base.specs.Params.{IsInRange}
 use Rattle.inorder_machine.specs.declared.stop.StopCause.{StopCause}
@@ -75,7 +75,7 @@ begins s first range = go (starts s first range)
 
 up-to : {P : Type 0} (meaning : Meaning P) (s : Setup) (first : P) → IsInRange s.params → Runs meaning s first 0 (cycles_until meaning is_stopped s.budget (start s first))
 up-to meaning s first range =
-    running meaning s first s.budget (start s first) range (On (begins s first range) refl refl) (record { eager = tt; follows = follows-start meaning s first })
+    running meaning s first s.budget (start s first) range (On (begins s first range) refl (omega arith)) (record { eager = tt; follows = follows-start meaning s first })
 
 -- ---- the drain
 
@@ -127,7 +127,7 @@ told-draining meaning s first n range = (drains meaning s first n (cycles_until 
 
 same-until : {P : Type 0} (meaning : Meaning P) (test : Core → Bool) (n : ℕ) (p : Progress P) → length p.logs ≡ length p.buses → length (cycles_until meaning test n p).logs ≡ length (cycles_until meaning test n p).buses
 same-until meaning test zero p h = h
-same-until meaning test (suc n) p h = go (test p.machines.core) (same-until meaning test n (next meaning p) (ap (λ k. k + 1) h))
+same-until meaning test (suc n) p h = go (test p.machines.core) (same-until meaning test n (next meaning p) (ap suc h))
   where
     go : (b : Bool) → length (cycles_until meaning test n (next meaning p)).logs ≡ length (cycles_until meaning test n (next meaning p)).buses
         → length (unless b p (λ q. cycles_until meaning test n (next meaning q))).logs ≡ length (unless b p (λ q. cycles_until meaning test n (next meaning q))).buses

@@ -1,6 +1,6 @@
 -- The instructions in flight, as the log and the trace of a run tell them, and the in-order machine
 -- along them.
-use Rattle.std.specs.Prelude.{ℕ, ◌&&◌, Bool, if◌then◌else◌, Option, Some, None, is_none, List, [], ◌∷◌, ◌++◌, length, take, drop}
+use Rattle.std.specs.Prelude.{ℕ, ◌&&◌, Bool, if◌then◌else◌, Option, Some, None, is_none, List, [], ◌∷◌, ◌++◌, take, drop}
 use Rattle.std.specs.List.{filter_map}
 use Rattle.xif_drive.specs.Predictors.{following}
 use Rattle.inorder_machine.specs.declared.line.Retire.{Retire}

@@ -17,7 +17,7 @@ pub fn the_flight_is_told<P>()
     ensures drains { (meaning : Meaning P) (setup : Setup) (predictor : P) (cycles : ℕ) →
         IsInRange setup.params →
         let p = drained meaning cycles
-            (cycles_until meaning is_stopped setup.budget (start setup predictor)) in
+        (cycles_until meaning is_stopped setup.budget (start setup predictor)) in
         map told_of p.machines.core.flight
         ≡ flight_after meaning predictor (cycles_of p.logs p.buses) }
     ensures count { (meaning : Meaning P) (setup : Setup) (predictor : P) →
