@@ -6,3 +6,4 @@ pub mod Along
 pub mod Turning
 pub mod Cycled
 pub mod Whole
+mod Examples

@@ -1,5 +1,5 @@
--- Eager dispatch: in each cycle the next instruction is dispatched if it can be, where the last one
--- was predicted to lead, and what was dispatched wrongly is cut and nothing else.
+-- Eager dispatch: in each cycle the next instruction is dispatched if it can be, from where the last
+-- one was predicted to lead, and nothing is cut without a cause.
 use Rattle.std.specs.Prelude.{◌≡◌, ◌≢◌, ◌<◌, ◌⊎◌, ℕ, ◌+◌, ◌^◌, ◌||◌, Bool, true, false, Option, Some, None, is_some, IsSome, IsSomeAnd, List, [], ◌∷◌, ◌++◌, length, find}
 use Rattle.rv32_table.specs.Word.{wrapped}
 use Rattle.xif_drive.specs.Predictors.{following}

@@ -8,12 +8,13 @@
 //! The laws, each the contract of a call that does nothing:
 //!
 //! - `the_flight_is_told`: what is told so is what the core has in flight, in each cycle of a run;
-//! - `every_run_is_eager`: each cycle of a run is eager, for every predictor, program, set of units,
-//!   script, window and budget.
+//! - `every_run_is_eager`: each cycle of a run is eager, for every predictor, program, set of
+//!   units, script, window and budget.
 //!
 //! In `proofs/`, `Views` has what each step of a cycle makes of what is told, `Refusing` that a
 //! refused word is known to stop, `Following` what each cycle keeps, `Choosing` what a cycle
-//! chooses, `Along` the walk, `Turning` the cuts, `Cycled` one cycle and `Whole` whole runs.
+//! chooses, `Along` the walk, `Turning` the cuts of control transfers, `Cycled` one cycle and
+//! `Whole` whole runs. `Examples` computes what is told of some runs.
 #![tactic(auto)]
 
 mod laws;
