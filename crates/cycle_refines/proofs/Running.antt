@@ -87,7 +87,7 @@ pub data Comes {P : Type 0} (s : Setup) (p : Progress P) : Type 0 where
 
 -- ---- what the machine that runs ahead says
 
-shown-in : (s : Setup) (retired : List Retire) (m : Machines) (w : World) → extension_of m.engine ≡ extension_in s → Shown (first_state s) 0 retired m w → (at : ℕ) × Shows (extension_in s) (first_state s) 0 (left_by 0 retired m) m.core.flight m.engine.uses at w
+pub shown-in : (s : Setup) (retired : List Retire) (m : Machines) (w : World) → extension_of m.engine ≡ extension_in s → Shown (first_state s) 0 retired m w → (at : ℕ) × Shows (extension_in s) (first_state s) 0 (left_by 0 retired m) m.core.flight m.engine.uses at w
 shown-in s retired m w e h = (h.at, subst (λ x. Shows x (first_state s) 0 (left_by 0 retired m) m.core.flight m.engine.uses h.at w) e h.shows)
 
 nil-items : (ys : List Item) → entries ys ≡ [] → ys ≡ []
@@ -129,7 +129,7 @@ leaves s retired m w e h =
 
 -- ---- a cycle
 
-goes-on : {P : Type 0} (meaning : Meaning P) (s : Setup) (p : Progress P) → IsInRange s.params → Goes s p → (choices p.machines.core).stop ≡ None → Goes s (next_progress meaning p)
+pub goes-on : {P : Type 0} (meaning : Meaning P) (s : Setup) (p : Progress P) → IsInRange s.params → Goes s p → (choices p.machines.core).stop ≡ None → Goes s (next_progress meaning p)
 goes-on meaning s p range g z =
     let m = p.machines in
     let answer = meaning.answer p.predictor in
@@ -146,7 +146,7 @@ goes-on meaning s p range g z =
           (λ w h. subst (λ e. Becomes e (Shown (first_state s) 0 after' (cycle m 0 answer)) w) g.extension (cycled (first_state s) 0 retired answer m w in_range g.paired z h));
     }
 
-halts-there : {P : Type 0} (meaning : Meaning P) (s : Setup) (p : Progress P) (cause : StopCause) → Goes s p → (choices p.machines.core).stop ≡ Some cause → Halts s (next_progress meaning p)
+pub halts-there : {P : Type 0} (meaning : Meaning P) (s : Setup) (p : Progress P) (cause : StopCause) → Goes s p → (choices p.machines.core).stop ≡ Some cause → Halts s (next_progress meaning p)
 halts-there meaning s p cause g z =
     let m = p.machines in
     let answer = meaning.answer p.predictor in
@@ -196,7 +196,7 @@ cycle-mode : (answer : ℕ → ℕ → ℕ) (m : Machines) → (cycle m 0 answer
 unfolding cycle
 cycle-mode answer m = refl
 
-still-draining : (answer : ℕ → ℕ → ℕ) (m : Machines) → (m.core.mode ≡ Running → ⊥) → (cycle m 0 answer).core.mode ≡ Running → ⊥
+pub still-draining : (answer : ℕ → ℕ → ℕ) (m : Machines) → (m.core.mode ≡ Running → ⊥) → (cycle m 0 answer).core.mode ≡ Running → ⊥
 still-draining answer m idle h = go m.core.mode idle (sym (cycle-mode answer m) ∙ h)
   where
     go : (mode : Mode) → (mode ≡ Running → ⊥) → mode_after mode ≡ Running → ⊥
@@ -214,7 +214,7 @@ draining meaning s (suc n) p range idle g =
     go true h = g
     go false h = h
 
-drain-begins : {P : Type 0} (s : Setup) (p : Progress P) → Goes s p → Goes s (with_drain p)
+pub drain-begins : {P : Type 0} (s : Setup) (p : Progress P) → Goes s p → Goes s (with_drain p)
 drain-begins s p g = record {
   params = g.params;
   extension = g.extension;
@@ -223,7 +223,7 @@ drain-begins s p g = record {
   events = record { events = g.events.events; may = g.events.may; there = drain-shown (first_state s) 0 (retired_in p.logs) p.machines (run (extension_in s) (begun (first_state s)) g.events.events) g.events.there };
 }
 
-draining-begins : {P : Type 0} (p : Progress P) → (with_drain p).machines.core.mode ≡ Running → ⊥
+pub draining-begins : {P : Type 0} (p : Progress P) → (with_drain p).machines.core.mode ≡ Running → ⊥
 draining-begins p h = cc
 
 drains : {P : Type 0} (meaning : Meaning P) (s : Setup) (n : ℕ) (p : Progress P) → IsInRange s.params → Comes s p → Comes s (drained meaning n p)
@@ -242,7 +242,7 @@ replicate-first : (n : ℕ) (z : List (List ℕ)) → 1 ≤ n → slice_index_or
 replicate-first zero z h = absurd (omega (arith, h))
 replicate-first (suc n) z h = refl
 
-starts : {P : Type 0} (s : Setup) (predictor : P) → IsInRange s.params → Comes s (start s predictor)
+pub starts : {P : Type 0} (s : Setup) (predictor : P) → IsInRange s.params → Comes s (start s predictor)
 starts s predictor range =
     let m = new_machines s in
     let units : units_of m.engine 0 ≡ zeros s.set = replicate-first s.params.num_harts (zeros s.set) range.num_harts.0 in
