@@ -1,0 +1,11 @@
+pub mod Bounds
+pub mod Memories
+pub mod Rows
+pub mod Table
+pub mod Operands
+pub mod Chosen
+pub mod Entries
+pub mod Presenting
+pub mod Uses
+pub mod Buses
+pub mod Runs
