@@ -85,12 +85,12 @@ leaves seed count m in_flight run q h r enough = by run.end refl
     by : (e : End) → run.end ≡ e → Leaves seed count m run
     by Budget e =
         let more : 3 * count + 8 ≤ n = enough e in
-        absurd (omega arith)
+        absurd (omega (arith, few))
     by (Stopped cause) e =
         let said = r.stop cause e in
         let here : next_step extension r.now ≡ Stop cause = said.0 in
         let many : 3 * count + 6 ≤ n = within extension n (3 * count + 6) (start m) r.now (last seed count m) arrived (stop-ends extension r.now cause here) come in
-        let all : n ≡ 3 * count + 6 = omega arith in
+        let all : n ≡ 3 * count + 6 = omega (arith, few) in
         let there : Some r.now ≡ Some (last seed count m) = sym arrived ∙ ap (λ k. after extension k (start m)) all ∙ come in
         let same : r.now ≡ last seed count m = cc in
         let causes : Stop cause ≡ Stop Ecall = sym here ∙ ap (next_step extension) same ∙ stop in

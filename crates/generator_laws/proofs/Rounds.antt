@@ -35,7 +35,7 @@ Comes n s t = after extension n s ≡ Some t
 one-more : (n : ℕ) (s t u : State) → Comes n s t → next_state extension t ≡ Some u → Comes (n + 1) s u
 one-more n s t u come step = after-more extension n s t come ∙ step
 
-abbrev start : Region → State
+abbrev pub start : Region → State
 start m = machine m 0 0 0 0 0 0
 
 loaded-both : (seed count : ℕ) (m : Region) → seed < 2 ^ 32 → count < 2 ^ 32 → Holds seed count m → Comes 4 (start m) (machine m 16 count seed 0 0 0)
