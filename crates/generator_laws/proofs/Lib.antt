@@ -1,0 +1,5 @@
+pub mod Words
+pub mod Steps
+pub mod Rounds
+pub mod Pace
+pub mod Ending
