@@ -1,5 +1,5 @@
 -- The laws of runs, joined.
-use Rattle.std.proofs.Common.{◌≡◌, ◌||◌, Bool, true, false, Option, Some, None, List, [], ◌∷◌, refl, sym, subst, arith}
+use Rattle.std.proofs.Common.{◌≡◌, ◌||◌, Bool, true, false, Option, Some, None, List, [], ◌∷◌, reverse, refl, sym, subst, arith}
 use Rattle.std.specs.Prelude.{is_some}
 use Rattle.std.proofs.lemmas.List.{reverse-reverse}
 use Rattle.xif_session.specs.Legal.{IsLegalSession}
@@ -9,6 +9,9 @@ use Rattle.cycle_spec.specs.State.{Core}
 use Rattle.cycle_spec.specs.Run.{Setup, Meaning, Run, has_no_entry, is_stopped, is_empty, end_by, progress_of, run_of}
 use Rattle.cycle_refines.specs.RefinesInOrder.{RefinesInOrder}
 use Rattle.cycle_refines.proofs.Running.{run-refines}
+use Rattle.eager_laws.specs.Eager.{IsEager}
+use Rattle.eager_laws.specs.Flights.{cycles_of, EachTold}
+use Rattle.eager_laws.proofs.Whole.{all-eager}
 use Rattle.pace_laws.specs.Lawful.{IsLawful}
 use Rattle.pace_laws.proofs.Whole.{drain-empty, by-budget, by-stop}
 use Rattle.trace_laws.proofs.Runs.{run-legal}
@@ -42,10 +45,14 @@ leaves s w run e over r = record {
     stopped None q h = cc
     stopped (Some cause) q h = (r.stop cause q).1
 
-pub faithful : {P : Type 0} (meaning : Meaning P) (s : Setup) (predictor : P) → CanRun s → IsFaithful s (run_of meaning s predictor)
+pub faithful : {P : Type 0} (meaning : Meaning P) (s : Setup) (predictor : P) → CanRun s → IsFaithful meaning s predictor (run_of meaning s predictor)
 faithful meaning s predictor c = record {
   refines = leaves s (progress_of meaning s predictor).machines.core (run_of meaning s predictor) refl (drain-empty _ meaning s predictor (lawful s c)) (run-refines meaning s predictor c.params);
   legal = subst (IsLegalSession s.params) (sym (reverse-reverse (progress_of meaning s predictor).buses)) (run-legal meaning s predictor c.params c.bytes);
+  eager =
+      let p = progress_of meaning s predictor in
+      subst (λ logs. EachTold (IsEager meaning s predictor) (cycles_of logs (reverse (reverse p.buses)))) (sym (reverse-reverse p.logs))
+      (subst (λ buses. EachTold (IsEager meaning s predictor) (cycles_of p.logs buses)) (sym (reverse-reverse p.buses)) (all-eager meaning s predictor c.params));
   paced = record {
     budget = λ h. by-budget _ meaning s predictor (lawful s c) h;
     stop = λ cause h. by-stop _ meaning s predictor cause (lawful s c) h;

@@ -7,10 +7,12 @@ use Rattle.inorder_machine.specs.Machine.{State, next_step}
 use Rattle.inorder_machine.specs.After.{after}
 use Rattle.xif_session.specs.Legal.{IsLegalSession}
 use Rattle.cycle_spec.specs.declared.log.End.TheVariants.{Stopped, Budget}
-use Rattle.cycle_spec.specs.Run.{Setup, Run}
+use Rattle.cycle_spec.specs.Run.{Setup, Meaning, Run}
 use Rattle.ahead_spec.specs.Refines.{lines}
 use Rattle.cycle_refines.specs.RefinesInOrder.{extension_in, first_state}
 use Rattle.trace_laws.specs.Sessions.{HasBytes}
+use Rattle.eager_laws.specs.Flights.{cycles_of, EachTold}
+use Rattle.eager_laws.specs.Eager.{IsEager}
 use Rattle.pace_laws.specs.Lawful.{pace_of}
 
 -- The parameters are in their ranges, an instruction may be in flight, and the memory has bytes. The
@@ -40,6 +42,12 @@ pub record LeavesInOrder (s : Setup) (run : Run) : Type 0 where
 abbrev pub HasLegalSignals : Setup → Run → Type 0
 HasLegalSignals s run = IsLegalSession s.params (reverse run.buses)
 
+-- It dispatches eagerly in each cycle: an instruction wherever one can be, from where the predictor
+-- led, and it drops none without a cause.
+abbrev pub IsEagerThroughout : {P : Type 0} → Meaning P → Setup → (predictor : P) → Run → Type 0
+IsEagerThroughout meaning s predictor run =
+    EachTold (IsEager meaning s predictor) (cycles_of (reverse run.logs) (reverse run.buses))
+
 -- It retires an instruction in each 8 * D + 40 cycles (`pace_of`), where D is the greatest delay of
 -- the script: so many at least where it ends by its budget; and where it stops it took no more cycles
 -- than that for each instruction that retired and the one that stopped it.
@@ -48,7 +56,10 @@ pub record KeepsPace (s : Setup) (run : Run) : Type 0 where
   pub stop : (cause : StopCause) → run.end ≡ Stopped cause
       → length run.buses ≤ (length run.retired + 1) * pace_of s
 
-pub record IsFaithful (s : Setup) (run : Run) : Type 0 where
+-- All of it, of a run with a predictor of a meaning.
+pub record IsFaithful {P : Type 0} (meaning : Meaning P) (s : Setup) (predictor : P) (run : Run)
+    : Type 0 where
   pub refines : LeavesInOrder s run
   pub legal : HasLegalSignals s run
+  pub eager : IsEagerThroughout meaning s predictor run
   pub paced : KeepsPace s run
