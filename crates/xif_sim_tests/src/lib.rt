@@ -4,20 +4,10 @@
 #![tactic(auto)]
 
 #[cfg(test)]
-mod coprocessors;
-#[cfg(test)]
-mod drive;
-#[cfg(test)]
 mod engine;
 #[cfg(test)]
 mod flight;
 #[cfg(test)]
-mod images;
-#[cfg(test)]
 mod log;
-#[cfg(test)]
-mod machine;
-#[cfg(test)]
-mod rv32;
 #[cfg(test)]
 mod simulate;
