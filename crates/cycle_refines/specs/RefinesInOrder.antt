@@ -7,7 +7,7 @@ use Rattle.inorder_machine.specs.Machine.{Extension, State, next_step}
 use Rattle.inorder_machine.specs.After.{after}
 use Rattle.cycle_spec.specs.declared.entry.Entry.{Entry}
 use Rattle.cycle_spec.specs.declared.log.End.TheVariants.{Stopped}
-use Rattle.cycle_spec.specs.Run.{Setup, Meaning, Run}
+use Rattle.cycle_spec.specs.Run.{Setup, Run}
 use Rattle.ahead_spec.specs.Refines.{lines}
 
 -- the words that are no instruction of RV32IM, as the units of a setup take them
@@ -38,8 +38,3 @@ pub record RefinesInOrder (s : Setup) (in_flight : List Entry) (run : Run) : Typ
   -- a run that stopped stopped where the in-order machine stops, for the same cause
   pub stop : (cause : StopCause) → run.end ≡ Stopped cause
       → (next_step (extension_in s) now ≡ Stop cause) × (run.units ≡ now.units)
-
--- what a predictor of a type means
-abbrev pub meaning
-    : {P : Type 0} → (P → (pc word : ℕ) → ℕ) → (P → (pc word actual : ℕ) → P) → Meaning P
-meaning answer after = record { answer = answer; after = after }

@@ -1,6 +1,6 @@
 use Rattle.std.proofs.lemmas.Result.{IfOk-weaker}
 use Rattle.cycle_spec.specs.Run.{Run}
-use Rattle.run_laws.specs.Headline.{LeavesInOrder, HasLegalSignals, KeepsPace}
+use Rattle.run_laws.specs.Headline.{LeavesInOrder, HasLegalSignals, IsEagerThroughout, KeepsPace}
 use Rattle.xif_sim.specs.Simulating.{meaning}
 use Rattle.xif_sim.proofs.Faithful.{faithful-run}
 use Rattle.xif_sim.proofs.run.simulate.Goals as goal
@@ -19,6 +19,14 @@ returns-clause-legal g c =
     let m = meaning g.P.Predictor.answer g.P.Predictor.after in
     IfOk-weaker c.whole_run.result _ (λ (run : Run). HasLegalSignals setup run)
     (λ run e. (faithful-run m setup c.args.predictor.now run c.requires c.has_bytes.ensures e).legal)
+    c.whole_run.ensures.run
+
+pub returns-clause-eager : goal.returns-clause-eager
+returns-clause-eager g c =
+    let setup = c.args.setup.now in
+    let m = meaning g.P.Predictor.answer g.P.Predictor.after in
+    IfOk-weaker c.whole_run.result _ (λ (run : Run). IsEagerThroughout m setup c.args.predictor.now run)
+    (λ run e. (faithful-run m setup c.args.predictor.now run c.requires c.has_bytes.ensures e).eager)
     c.whole_run.ensures.run
 
 pub returns-clause-paced : goal.returns-clause-paced
