@@ -11,4 +11,5 @@ pub mod Concluding
 pub mod Stopping
 pub mod Running
 pub mod Predicted
+pub mod Faithful
 pub mod Printed

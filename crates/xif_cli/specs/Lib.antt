@@ -8,6 +8,7 @@ pub mod Simulated
 pub mod Summary
 pub mod Outcome
 pub mod Judged
+pub mod Faithful
 pub mod Ending
 pub mod Afterwards
 pub mod Concluding

@@ -7,7 +7,9 @@ ghost use Rattle.xif_cli.specs.Concluding.{Concludes};
 ghost use Rattle.xif_cli.specs.Ending.{IsNoCommand, Means, is_built, has_targets, can_end, IsFaulted, IsFaultedAt, IsRefusalOfContent, IsRefusal, texts_of};
 ghost use Rattle.xif_cli.specs.Outcome.{Answer, end_status, found, without, command_outcome};
 ghost use Rattle.xif_cli.specs.declared.answer.End.{End};
+ghost use Rattle.xif_cli.specs.Faithful.{IsFaithfulAnswer};
 ghost use Rattle.xif_cli.specs.Reading.{Ends, seen, can_refuse};
+ghost use Rattle.xif_cli.specs.Words as form;
 ghost use Rattle.xif_cli.specs.Words.{Form, IsInRange, IsCommand, form_of};
 
 use crate::answer::Answer;
@@ -43,6 +45,13 @@ pub fn xif<S: Shelf, O: Out>(alloc: Global, words: &[String], shelf: &mut S, out
         m (S.files shelf.new) (O.put_bytes out.old) (O.put_bytes out.new) }
     ensures refusal_is_defined { IsRefusalOfContent result →
         (m : Files) → S.files shelf.old ≡ Some m → Means words.now (found m) (Err result) }
+
+    // Where `run` is done, its files and its report are those of a run that leaves what the
+    // in-order machine leaves, with legal signals, that dispatches eagerly and keeps pace.
+    ensures run_is_faithful { (job : List ℕ) → IsCommand (texts_of words.now) (form.Run job) →
+        result ≡ Status.Done → (m : Files) → S.files shelf.old ≡ Some m →
+        IsDone (IsFaithfulAnswer job (found m)) End.Done
+        m (S.files shelf.new) (O.put_bytes out.old) (O.put_bytes out.new) }
 
     // A file can't be read where a fault of the shelf was counted, or where it isn't there. What is
     // read before it is lawful.
@@ -120,6 +129,10 @@ fn perform<S: Shelf, O: Out>(
         O.put_bytes O.faults O.faultless shelf.old shelf.new out.old out.new
         (command_outcome (form_of command.entry)) result }
     ensures can_end { IsTrue (can_end (form_of command.entry) result) }
+    ensures faithful { (job : List ℕ) → form_of command.entry ≡ form.Run job →
+        result ≡ Status.Done → (m : Files) → S.files shelf.old ≡ Some m →
+        IsDone (IsFaithfulAnswer job (found m)) End.Done
+        m (S.files shelf.new) (O.put_bytes out.old) (O.put_bytes out.new) }
     ensures unbuilt { is_built (form_of command.entry) ≡ false →
         (result ≡ Status.Unbuilt) × (shelf.new ≡ shelf.old) }
     ensures only_reads { has_targets (form_of command.entry) ≡ false →

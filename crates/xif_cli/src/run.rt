@@ -1,9 +1,14 @@
 //! The command `run JOB`.
-ghost use Rattle.std.specs.Prelude.{◌≡◌, ◌||◌, IsTrue, IfErr, IfOk};
+ghost use Rattle.std.specs.Prelude.{◌≡◌, ◌||◌, IsTrue, IfErr, IfOk, Some};
+ghost use Rattle.xif_base.specs.Files.{Files};
+ghost use Rattle.trace_laws.specs.Sessions.{HasBytes};
 ghost use Rattle.xif_job.specs.Ranges.{IsLawfulJob};
+ghost use Rattle.xif_cli.specs.Afterwards.{IsDone};
 ghost use Rattle.xif_cli.specs.Concluding.{Delivers, Concludes};
 ghost use Rattle.xif_cli.specs.Ending.{can_end};
-ghost use Rattle.xif_cli.specs.Outcome.{loaded, with_image, run_answer, run_outcome};
+ghost use Rattle.xif_cli.specs.Faithful.{IsFaithfulAnswer};
+ghost use Rattle.xif_cli.specs.InOrder.{step_start};
+ghost use Rattle.xif_cli.specs.Outcome.{found, loaded, with_image, run_answer, run_outcome};
 ghost use Rattle.xif_cli.specs.Reading.{Ends, seen, can_refuse_job, can_refuse_image};
 ghost use Rattle.xif_cli.specs.Words as form;
 
@@ -29,6 +34,9 @@ pub(crate) fn run_job<S: Shelf, O: Out>(
         O.put_bytes O.faults O.faultless shelf.old shelf.new out.old out.new
         (run_outcome name.now) result }
     ensures can_end { IsTrue (can_end (form.Run name.now) result) }
+    ensures faithful { result ≡ Status.Done → (m : Files) → S.files shelf.old ≡ Some m →
+        IsDone (IsFaithfulAnswer name.now (found m)) End.Done
+        m (S.files shelf.new) (O.put_bytes out.old) (O.put_bytes out.new) }
 {
     match load(alloc, name, shelf) {
         Ok(loaded) => deliver(alloc, &loaded.job, &loaded.image, shelf, out),
@@ -81,9 +89,10 @@ fn deliver<S: Shelf, O: Out>(
 ) -> Status
     requires lawful { IsLawfulJob job.now }
     requires memory { (image.now.base ≡ job.now.base) × (image.now.size ≡ job.now.size) }
-    ensures { Delivers S.files S.fetch_faults S.write_faults S.faultless
+    ensures delivers { Delivers S.files S.fetch_faults S.write_faults S.faultless
         O.put_bytes O.faults O.faultless shelf.old shelf.new out.old out.new
         (run_answer job.now image.now) result }
+    ensures bytes { result ≡ Status.Done → HasBytes (step_start job.now image.now).memory }
 {
     match write_run(alloc, job, image, shelf) {
         Ok(text) => print_answer(

@@ -3,6 +3,7 @@ ghost use Rattle.std.specs.Prelude.{◌≡◌, ◌⊎◌, IfErr, IfOk, OnOk, OnE
 ghost use Rattle.std.specs.String.{string_bytes};
 ghost use Rattle.cycle_spec.specs.Engine.{units_of};
 ghost use Rattle.cycle_spec.specs.Run.{end_by, run_of};
+ghost use Rattle.trace_laws.specs.Sessions.{HasBytes};
 ghost use Rattle.xif_job.specs.Ranges.{IsLawfulJob};
 ghost use Rattle.xif_sim.specs.Setup.{IsLawfulSetup};
 ghost use Rattle.xif_sim.specs.Simulating.{meaning};
@@ -51,10 +52,11 @@ pub(crate) fn write_run<S: Shelf>(
 ) -> Result<String, Stop>
     requires lawful { IsLawfulJob job.now }
     requires memory { (image.now.base ≡ job.now.base) × (image.now.size ≡ job.now.size) }
-    ensures { let run = run_by (job.now).predictor (setup_of job.now image.now) in
+    ensures writes { let run = run_by (job.now).predictor (setup_of job.now image.now) in
         WritesRun S.files S.fetch_faults S.write_faults S.faultless shelf.old shelf.new
         (targets_of job.now run)
         (simulated_report run (step_start job.now image.now).memory.bytes) result }
+    ensures bytes { IfOk result (λ _. HasBytes (step_start job.now image.now).memory) }
 {
     let Ok(setup) = setup(alloc, job, image) else {
         return Err(UNTOUCHED);
@@ -86,10 +88,11 @@ fn setup(alloc: Global, job: &Job, image: &Image) -> Result<Setup, NoMemory>
     requires memory { (image.now.base ≡ job.now.base) × (image.now.size ≡ job.now.size) }
     ensures setup { IfOk result (λ setup. setup ≡ setup_of job.now image.now) }
     ensures lawful { IfOk result IsLawfulSetup }
+    ensures bytes { IfOk result (λ setup. HasBytes setup.memory) }
 {
     let mut memory = Memory::new(alloc, job.base, job.size)?;
     memory.place(image);
-    Ok(Setup {
+    let setup = Setup {
         params: job.params,
         set: job.set.copy(alloc)?,
         script: job.script.copy(alloc)?,
@@ -97,7 +100,9 @@ fn setup(alloc: Global, job: &Job, image: &Image) -> Result<Setup, NoMemory>
         budget: job.budget,
         memory,
         entry: job.entry,
-    })
+    };
+    setup.has_bytes();
+    Ok(setup)
 }
 
 // Runs a setup with a predictor, and writes trace and log.

@@ -2,6 +2,7 @@ use Rattle.std.proofs.Common.{◌≡◌, inl, inr, false, Ok, Err, map, string_b
 use Rattle.xif_base.specs.Faults.{OnlyReads}
 use Rattle.xif_cli.specs.Ending.{Means, is_built, has_targets}
 use Rattle.xif_cli.specs.Outcome.{Lookup, Answer, command_outcome, found}
+use Rattle.xif_cli.specs.Words as form
 use Rattle.xif_cli.specs.Words.{Form, IsCommand, form_of}
 use Rattle.xif_cli.proofs.Concluding.{done_so, broken_so}
 use Rattle.xif_cli.proofs.Forms.{one_form}
@@ -48,3 +49,8 @@ pub returns-clause-others_only_read : goal.returns-clause-others_only_read
 returns-clause-others_only_read g c = λ form is none.
     let same : form ≡ form_of c.in-Some.command = one_form (map string_bytes c.args.words.now) form (form_of c.in-Some.command) is c.in-Some.ensures.found in
     c.perform.ensures.only_reads (subst (λ f. has_targets f ≡ false) same none)
+
+pub returns-clause-run_is_faithful : goal.returns-clause-run_is_faithful
+returns-clause-run_is_faithful g c = λ job is done m told.
+    let same : form.Run job ≡ form_of c.in-Some.command = one_form (map string_bytes c.args.words.now) (form.Run job) (form_of c.in-Some.command) is c.in-Some.ensures.found in
+    c.perform.ensures.faithful job (sym same) done m told
