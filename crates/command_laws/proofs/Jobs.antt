@@ -1,19 +1,17 @@
 -- What holds of a job that is read: its set is lawful, there is an id for each instruction in flight,
 -- and its log is another file than its trace. Without a table `map` its map is the default one.
-use Rattle.std.proofs.Common.{◌≡◌, ◌≤◌, ◌^◌, ◌&&◌, ◌==◌, ℕ, Bool, true, false, not, if◌then◌else◌, List, [], ◌∷◌, Option, Some, None, Ok, Err, pos, negsuc, min, nat_le, refl, sym, ap, ◌∙◌, subst, arith}
+use Rattle.std.proofs.Common.{◌≡◌, ◌≤◌, ◌^◌, ℕ, Bool, true, false, not, if◌then◌else◌, List, Option, Some, None, Ok, Err, pos, negsuc, min, refl, sym, ap, ◌∙◌, subst, arith}
 use Rattle.std.specs.Prelude.{Result}
 use Rattle.std.specs.Option.{ok_or}
 use Rattle.std.specs.Str.{bytes_eq}
 use Rattle.std.proofs.lemmas.Bool.Decides.{nat_tests}
-use Rattle.toml.specs.Data.{Data, integer, string, float, boolean, datetime, array, table, Members, no_members}
+use Rattle.toml.specs.Data.{Data, integer, string, float, boolean, datetime, array, table, Members}
 use Rattle.xif_base.specs.declared.params.Params.{Params}
 use Rattle.xif_base.specs.Checks.{first_failing}
-use Rattle.xif_base.specs.Params.{within}
 use Rattle.coproc_config.specs.declared.check.SetFault.{SetFault}
 use Rattle.coproc_config.specs.Set.{UnitTable}
 use Rattle.coproc_config.specs.Check.{IsLawful, checks}
 use Rattle.xif_drive.specs.Scripts.{script_fault, checked_by}
-use Rattle.xif_sampler.specs.declared.place.Place.{Place}
 use Rattle.xif_sampler.specs.Places.{defaults}
 use Rattle.xif_job.specs.declared.field.Field.{Field}
 use Rattle.xif_job.specs.declared.field.Field.TheVariants as fields
@@ -22,9 +20,8 @@ use Rattle.xif_job.specs.declared.field.JobFault.TheVariants.{NotToml, UnknownFi
 use Rattle.xif_job.specs.declared.job.Job.{Job}
 use Rattle.xif_job.specs.Document.{document_of}
 use Rattle.xif_job.specs.FieldTable.{params_of, memory_of, image_of, predictor_of, core_names, core_of, script_of, units_of, trace_names, differs, trace_of, map_of, lawful, drivable, job_of, table_names, read_of}
-use Rattle.xif_job.specs.Readers.{◌at◌, ◌to◌, is_in, integer_in, number_in, text_in, table_in, are_known}
+use Rattle.xif_job.specs.Readers.{◌at◌, ◌to◌, is_in, integer_in, number_in, table_in, are_known}
 use Rattle.xif_job.specs.Outcome.{◌>>=◌, unless, where_absent}
-use lib.Chars.{codes}
 
 -- what holds of all that a reading gives
 abbrev Gives : {A : Type 0} → (A → Type 0) → Result A JobFault → Type 0

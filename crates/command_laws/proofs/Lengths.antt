@@ -1,5 +1,5 @@
 -- The text of buses has more bytes than there are buses.
-use Rattle.std.proofs.Common.{◌≡◌, ◌≤◌, ◌+◌, ◌*◌, ◌++◌, ℕ, List, [], ◌∷◌, length, Option, Some, None, arith}
+use Rattle.std.proofs.Common.{◌≤◌, ◌+◌, ℕ, List, [], ◌∷◌, length, Option, Some, None, arith}
 use Rattle.std.proofs.lemmas.List.{length-append}
 use Rattle.xif_base.specs.declared.params.Params.{Params}
 use Rattle.xif_signals.specs.declared.bus.Bus.{Bus}

@@ -1,5 +1,5 @@
 -- The run of a job that is read, with its image: its buses fit their widths, and are a legal session.
-use Rattle.std.proofs.Common.{◌≡◌, ◌<◌, ◌≤◌, ◌^◌, ℕ, Bool, true, false, if◌then◌else◌, List, [], ◌∷◌, length, reverse, replicate, Option, Some, None, Result, Ok, Err, nat_le, refl, sym, ap, ◌∙◌, subst, arith}
+use Rattle.std.proofs.Common.{◌≡◌, ℕ, Bool, true, false, if◌then◌else◌, List, [], ◌∷◌, length, reverse, replicate, Option, Some, None, Result, Ok, Err, nat_le, refl, sym, ap, subst, arith}
 use Rattle.std.specs.List.{All}
 use Rattle.std.proofs.lemmas.List.{reverse-reverse}
 use Rattle.std.proofs.lemmas.List.Elements.{All-nil, All-cons}
@@ -8,8 +8,6 @@ use Rattle.xif_base.specs.declared.outside.Which.{Which}
 use Rattle.xif_base.specs.declared.outside.Which.TheVariants as which
 use Rattle.xif_base.specs.Params.{IsInRange}
 use Rattle.xif_image.specs.Image.{Placement}
-use Rattle.xif_image.specs.declared.image.ImageFault.{ImageFault}
-use Rattle.xif_signals.specs.declared.bus.Bus.{Bus}
 use Rattle.xif_signals.specs.Bus.{FitsWidths}
 use Rattle.xif_session.specs.Legal.{IsLegalSession}
 use Rattle.cycle_spec.specs.Run.{Setup, Meaning, Run, progress_of, run_of}
@@ -23,7 +21,6 @@ use Rattle.cycle_lists.specs.Lists.{Each}
 use Rattle.xif_job.specs.declared.image.ImageKind.{ImageKind}
 use Rattle.xif_job.specs.declared.image.ImageKind.TheVariants.{Text, Raw}
 use Rattle.xif_job.specs.declared.job.Job.{Job}
-use Rattle.xif_job.specs.declared.field.JobFault.{JobFault}
 use Rattle.xif_job.specs.declared.predictor.Kind.{Kind}
 use Rattle.xif_job.specs.declared.predictor.Kind.TheVariants as kind
 use Rattle.xif_job.specs.FieldTable.{read_of}

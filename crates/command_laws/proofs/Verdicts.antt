@@ -1,5 +1,5 @@
 -- `judge` of the trace of a run.
-use Rattle.std.proofs.Common.{◌≡◌, ◌<◌, ◌≤◌, ◌^◌, ◌++◌, ℕ, Bool, true, false, if◌then◌else◌, cond, List, [], ◌∷◌, length, reverse, Option, Some, None, Result, Ok, Err, nat_le, refl, sym, ap, ◌∙◌, subst, arith}
+use Rattle.std.proofs.Common.{◌≡◌, ◌<◌, ◌≤◌, ◌^◌, ◌++◌, ℕ, Bool, true, false, if◌then◌else◌, cond, List, length, Option, Some, Result, Ok, Err, nat_le, refl, sym, ap, ◌∙◌, subst, arith}
 use Rattle.std.specs.Prelude.{String}
 use Rattle.std.specs.declared.alloc.Global.{Global}
 use Rattle.std.specs.Str.{bytes_eq}
@@ -21,15 +21,14 @@ use Rattle.xif_sampler.specs.Places.{defaults}
 use Rattle.vcd_text.specs.Written.{vcd_text_of}
 use Rattle.trace_file.specs.Tracing.{trace_text}
 use Rattle.cycle_spec.specs.Run.{Run}
-use Rattle.waveform_judge.specs.declared.judged.Judged.{Judged}
-use Rattle.waveform_judge.specs.declared.judged.JudgeFail.{JudgeFail}
+use Rattle.run_log.specs.Log.{text_of}
 use Rattle.waveform_judge.specs.Judged.{judged_of}
 use Rattle.waveform_laws.specs.Verdicts.{no_fault_in}
 use Rattle.waveform_laws.proofs.Texts.{text_legal}
 use Rattle.xif_job.specs.declared.job.Job.{Job}
 use Rattle.xif_cli.specs.declared.status.Status.{Status}
 use Rattle.xif_cli.specs.declared.status.Status.TheVariants.{TooBig}
-use Rattle.xif_cli.specs.Ending.{texts_of, Means}
+use Rattle.xif_cli.specs.Ending.{texts_of}
 use Rattle.xif_cli.specs.InOrder.{step_start}
 use Rattle.xif_cli.specs.Judged.{legal_answer}
 use Rattle.xif_cli.specs.Limits.{longest_waveform}
@@ -40,10 +39,10 @@ use Rattle.xif_cli.specs.Verdict.{judged_end, judged_text}
 use Rattle.xif_cli.specs.Words.{Form, IsCommand}
 use Rattle.xif_cli.specs.Words as form
 use Rattle.xif_cli.proofs.Forms.{one_form}
-use Rattle.command_laws.specs.Commands.{HoldBytes, SaysCycles, HasNoMap, Runs, Judges, KeepsTrace, IsJudgedLegal}
-use Rattle.command_laws.proofs.Jobs.{IsRead, job_read, no_map}
+use Rattle.command_laws.specs.Commands.{HoldBytes, SaysCycles, Runs, Judges, KeepsTrace, IsJudgedLegal}
+use Rattle.command_laws.proofs.Jobs.{job_read, no_map}
 use Rattle.command_laws.proofs.Lengths.{text-long}
-use Rattle.command_laws.proofs.Runs.{IsGood, run-good, JobFile, job-file, setup-ranges}
+use Rattle.command_laws.proofs.Runs.{IsGood, run-good, job-file, setup-ranges}
 
 abbrev meant : Answer → Result Answer Status
 meant answer = Ok answer
@@ -59,6 +58,12 @@ same-some xs ys h = cc
 
 -- ---- the answer of `run`
 
+abbrev both : Job → Placement → Result (Job × Placement) Status
+both job image = Ok (job, image)
+
+abbrev answered : Job × Placement → Result Answer Status
+answered l = Ok (run_answer l.0 l.1)
+
 -- the image of the job, and the answer
 record HasRun (find : Lookup) (job : Job) (answer : Answer) : Type 0 where
   image : Placement
@@ -66,12 +71,15 @@ record HasRun (find : Lookup) (job : Job) (answer : Answer) : Type 0 where
   is_answer : answer ≡ run_answer job image
 
 run-of : (words : List (String Global)) (files : Files) (job : Job) (answer : Answer) → Runs words files job answer → HasRun (found files) job answer
-run-of words files job answer r = go (image_of job (found files)) refl (sym (ap (λ j. j >>= (λ job. with_image job (found files)) >>= λ l. Ok (run_answer l.0 l.1)) r.is_job) ∙ outcome)
+run-of words files job answer r = go (image_of job (found files)) refl (sym loads ∙ outcome)
   where
     outcome : run_outcome r.name (found files) ≡ Ok answer
     outcome = ap (λ f. command_outcome f (found files)) (one_form (texts_of words) (form.Run r.name) r.means.0 r.command r.means.1.0) ∙ r.means.1.1
 
-    go : (o : Result Placement Status) → image_of job (found files) ≡ o → (o >>= (λ image. Ok (job, image)) >>= λ l. Ok (run_answer l.0 l.1)) ≡ Ok answer → HasRun (found files) job answer
+    loads : run_outcome r.name (found files) ≡ (image_of job (found files) >>= both job >>= answered)
+    loads = ap (λ j. j >>= (λ job. with_image job (found files)) >>= answered) r.is_job
+
+    go : (o : Result Placement Status) → image_of job (found files) ≡ o → (o >>= both job >>= answered) ≡ Ok answer → HasRun (found files) job answer
     go (Ok image) e h = record { image = image; is_image = e; is_answer = sym (same-answer (run_answer job image) answer h) }
     go (Err status) e h = cc
 
@@ -107,8 +115,8 @@ trace-there : (before : Files) (job : Job) (run : Run) → bytes_eq job.log job.
 trace-there before job run h =
     let text = trace_text job.params run.buses in
     let apart = is_eq-slice_cmp job.trace job.log ∙ other-name job.trace job.log h in
-    get-insert nat_list_cmp_total (insert before job.trace text) job.log _ job.trace
-    ∙ ap (λ t. cond t (Some _) (get (insert before job.trace text) job.trace)) apart
+    get-insert nat_list_cmp_total (insert before job.trace text) job.log (text_of run.logs) job.trace
+    ∙ ap (λ t. cond t (Some (text_of run.logs)) (get (insert before job.trace text) job.trace)) apart
     ∙ get-put before job.trace text
 
 -- ---- the verdict
@@ -140,7 +148,7 @@ module _ (run_words judge_words : List (String Global)) (before after : Files) (
   has : HasRun (found before) job answer
   has = run-of run_words before job answer runs
 
-  run : Run
+  abbrev run : Run
   run = run_by job.predictor (setup_of job has.image)
 
   good : IsGood (setup_of job has.image) run
@@ -149,7 +157,7 @@ module _ (run_words judge_words : List (String Global)) (before after : Files) (
   range : IsInRange job.params
   range = (setup-ranges before runs.name job has.image bytes runs.is_job has.is_image).params
 
-  text : List ℕ
+  abbrev text : List ℕ
   text = trace_text job.params run.buses
 
   there : get after job.trace ≡ Some text

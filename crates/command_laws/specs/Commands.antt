@@ -1,5 +1,5 @@
 -- A call of `run`, and a call of `judge` on the trace that it writes.
-use Rattle.std.specs.Prelude.{◌≡◌, ◌≤◌, ◌<◌, ◌++◌, ℕ, List, length, Option, Some, None, Result, Ok, Err, All, String, true, false}
+use Rattle.std.specs.Prelude.{◌≡◌, ◌≤◌, ◌<◌, ◌++◌, ℕ, List, length, Option, Some, None, Ok, Err, All, String, true, false}
 use Rattle.std.specs.declared.alloc.Global.{Global}
 use Rattle.std.specs.FinMap as map
 use Rattle.toml.specs.Data.{Members, get_member}
