@@ -1,0 +1,5 @@
+pub mod Jobs
+pub mod Images
+pub mod Lengths
+pub mod Runs
+pub mod Verdicts
