@@ -1,5 +1,5 @@
 -- How the run of a generated program ends, and what it leaves.
-use Rattle.std.specs.Prelude.{◌≡◌, ◌≤◌, ◌<◌, ◌+◌, ◌*◌, ◌^◌, ℕ, List, [], ◌∷◌, length, replicate}
+use Rattle.std.specs.Prelude.{◌≡◌, ◌≤◌, ◌<◌, ◌+◌, ◌*◌, ◌^◌, ℕ, [], ◌∷◌, length, replicate}
 use Rattle.coproc_config.specs.Bits.{low_half, high_half}
 use Rattle.inorder_machine.specs.declared.stop.StopCause.TheVariants.{Ecall}
 use Rattle.cycle_spec.specs.declared.log.End.TheVariants.{Stopped}

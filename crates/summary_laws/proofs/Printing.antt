@@ -1,7 +1,7 @@
 -- The text of the summary, by what the run leaves.
-use Rattle.std.proofs.Common.{◌≡◌, ◌≤◌, ◌+◌, ◌*◌, ◌++◌, ℕ, List, [], ◌∷◌, length, replicate, Some, Result, Ok, refl, sym, ap, subst, ◌∙◌, append_assoc, arith}
+use Rattle.std.proofs.Common.{◌≡◌, ◌+◌, ◌*◌, ◌++◌, ℕ, List, [], ◌∷◌, length, replicate, Some, Result, Ok, refl, sym, ap, subst, ◌∙◌, append_assoc, arith}
 use Rattle.std.specs.Prelude.{String}
-use Rattle.std.specs.Fmt.{decimal, digits}
+use Rattle.std.specs.Fmt.{digits}
 use Rattle.std.specs.declared.alloc.Global.{Global}
 use Rattle.coproc_config.specs.Bits.{low_half, high_half}
 use Rattle.coproc_config.specs.State.{accumulator_of}
@@ -18,7 +18,7 @@ use Rattle.xif_cli.specs.Ending.{Means, texts_of}
 use Rattle.xif_cli.specs.Outcome.{Answer, Lookup, prints, command_outcome}
 use Rattle.xif_cli.specs.Simulated.{never, run_by, stop_of}
 use Rattle.xif_cli.specs.Summary.{counts_text, end_text, values_line, summary_of, generated_setup, generated_summary}
-use Rattle.xif_cli.specs.Words.{Form, Gen, IsCommand}
+use Rattle.xif_cli.specs.Words.{Gen, IsCommand}
 use Rattle.xif_cli.proofs.Forms.{one_form}
 use Rattle.generator_laws.specs.Sums.{setup_of, IsRequest, EndsByEcall, Sums}
 use Rattle.generator_laws.proofs.Ending.{run-ends, run-sums}
