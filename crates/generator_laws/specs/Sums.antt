@@ -32,7 +32,7 @@ pub record EndsByEcall (count : ℕ) (run : Run) : Type 0 where
   pub pc : run.pc ≡ 36
   -- four instructions before the loop, three in each round, and two behind it
   pub retired : length run.retired ≡ 3 * count + 6
-  -- each of these, and the ECALL, took 64 cycles at most
+  -- there are at most 64 cycles for each of these and for the ECALL
   pub cycles : length run.buses ≤ 64 * (3 * count + 7)
 
 -- A run leaves `count` times the seed.

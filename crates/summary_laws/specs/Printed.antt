@@ -22,8 +22,8 @@ summary_text seed count cuts cycles =
 abbrev pub cuts_of : Run → ℕ
 cuts_of run = length (filter_map (λ log. log.cut) run.logs)
 
--- An answer writes no file, and prints these two lines: `count` times the seed is the sum. The
--- run took at most 64 cycles for each instruction that retired, and for the ECALL.
+-- An answer writes no file, and prints these two lines of a run, by which `count` times the seed
+-- is the sum. There are at most 64 cycles for each instruction that retired and for the ECALL.
 pub record PrintsTheSum (seed count : ℕ) (run : Run) (answer : Answer) : Type 0 where
   pub end : answer.end ≡ Done
   pub targets : answer.targets ≡ []

@@ -10,9 +10,9 @@ ghost use Rattle.xif_cli.specs.Summary.{generated_setup};
 ghost use Rattle.xif_cli.specs.Words.{IsCommand, Gen};
 ghost use Rattle.summary_laws.specs.Printed.{PrintsTheSum};
 
-/// Where the words of the command line are `gen SEED COUNT`, with numbers in their ranges, they mean
-/// an answer, whatever files there are: its run ended by ECALL after 3 * COUNT + 6 instructions, and
-/// the registers and the accumulator that it prints are COUNT times SEED.
+/// Where the words of the command line are `gen SEED COUNT`, with numbers in their ranges, they
+/// mean an answer, whatever files there are: its run ended by ECALL after 3 * COUNT + 6
+/// instructions, and the registers and the accumulator that it prints are COUNT times SEED.
 pub fn gen_prints_the_sum()
     ensures { (words : List (String Global)) → (find : Lookup) → (seed count : ℕ) →
         (outcome : Result Answer Status) → IsCommand (texts_of words) (Gen seed count) →
