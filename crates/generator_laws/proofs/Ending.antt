@@ -1,10 +1,9 @@
 -- The run of a generated program ends where the in-order machine does.
-use Rattle.std.proofs.Common.{◌≡◌, ◌≤◌, ◌<◌, ◌+◌, ◌*◌, ◌%◌, ◌/◌, ◌^◌, ℕ, List, [], ◌∷◌, length, replicate, Option, Some, None, refl, sym, ap, ◌∙◌, subst, inl, inr, arith}
+use Rattle.std.proofs.Common.{◌≡◌, ◌≤◌, ◌+◌, ◌*◌, ◌/◌, ℕ, List, length, Some, None, refl, sym, ap, ◌∙◌, subst, inl, inr, arith}
 use Rattle.std.proofs.lemmas.Bool.{cases_lt}
 use Rattle.xif_base.specs.Params.{IsInRange}
 use Rattle.xif_image.specs.Region.{Region}
-use Rattle.inorder_machine.specs.declared.line.Stepped.{Stepped}
-use Rattle.inorder_machine.specs.declared.line.Stepped.TheVariants.{Retired, Stop}
+use Rattle.inorder_machine.specs.declared.line.Stepped.TheVariants.{Stop}
 use Rattle.inorder_machine.specs.declared.stop.StopCause.{StopCause}
 use Rattle.inorder_machine.specs.declared.stop.StopCause.TheVariants.{Ecall}
 use Rattle.inorder_machine.specs.Machine.{Extension, State, next_step}
@@ -31,9 +30,9 @@ within : (x : Extension) (n m : ℕ) (s t u : State) → after x n s ≡ Some t 
 within x n m s t u come stop other =
     elim (cases_lt n m) [
       | inl below ↦
-        let full : retired_within x m s ≡ m = retired_within-full x m s u other in
-        let early : retired_within x m s ≡ n = retired_within-stopped x m n s t come stop (omega arith) in
-        absurd (omega arith)
+          let full : retired_within x m s ≡ m = retired_within-full x m s u other in
+          let early : retired_within x m s ≡ n = retired_within-stopped x m n s t come stop (omega arith) in
+          absurd (omega arith)
       | inr over ↦ over
     ]
 

@@ -1,9 +1,9 @@
 -- The delays of a seed are small, so that the budget is enough.
-use Rattle.std.proofs.Common.{◌≡◌, ◌≤◌, ◌<◌, ◌+◌, ◌*◌, ◌/◌, ◌%◌, ◌++◌, ℕ, List, [], ◌∷◌, max, arith}
+use Rattle.std.proofs.Common.{◌≤◌, ◌+◌, ◌*◌, ◌/◌, ◌++◌, ℕ, List, [], ◌∷◌, max, arith}
 use Rattle.std.specs.List.{fold, AllByRecursion}
 use Rattle.std.proofs.Math.Nat.{mul-le-mul_left}
 use Rattle.std.proofs.lemmas.Nat.{le-div}
-use Rattle.xif_drive.specs.Scripts.{greatest, largest_of}
+use Rattle.xif_drive.specs.Scripts.{largest_of}
 use Rattle.generator.specs.Generated.{drawn, four_drawn, fourth_state, script_of, budget_of}
 
 abbrev AtMost : (n : ℕ) → List ℕ → Type 0

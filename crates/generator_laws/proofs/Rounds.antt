@@ -1,14 +1,12 @@
 -- The in-order machine from the first instruction of the program to its last.
-use Rattle.std.proofs.Common.{◌≡◌, ◌≤◌, ◌<◌, ◌+◌, ◌-◌, ◌*◌, ◌/◌, ◌%◌, ◌^◌, ◌++◌, ℕ, zero, suc, List, [], ◌∷◌, length, get_or, replicate, Some, refl, sym, ap, ◌∙◌, subst, arith, lit<}
+use Rattle.std.proofs.Common.{◌≡◌, ◌≤◌, ◌<◌, ◌+◌, ◌-◌, ◌*◌, ◌/◌, ◌%◌, ◌^◌, ◌++◌, ℕ, zero, suc, List, length, get_or, replicate, Some, refl, sym, ap, ◌∙◌, subst, arith, lit<}
 use Rattle.std.specs.Int.{w32, to_le_bytes}
 use Rattle.std.specs.List.{flat_map, AllByRecursion}
 use Rattle.std.proofs.Math.Nat.{mul-le-mul}
-use Rattle.std.specs.Option.{option_and_then}
-use Rattle.rv32_table.specs.Word.{wrapped}
 use Rattle.xif_image.specs.Region.{Region, word_at}
 use Rattle.inorder_machine.specs.declared.line.Stepped.TheVariants.{Stop}
 use Rattle.inorder_machine.specs.declared.stop.StopCause.TheVariants.{Ecall}
-use Rattle.inorder_machine.specs.Machine.{Extension, State, next_step}
+use Rattle.inorder_machine.specs.Machine.{State, next_step}
 use Rattle.inorder_machine.specs.After.{next_state, after}
 use Rattle.inorder_machine.proofs.Retirements.{after-more}
 use Rattle.generator.specs.Generated.{lui_word, addi_word, upper_bits, lower_bits, program_of, program_bytes, memory_of}

@@ -1,9 +1,8 @@
 -- What each instruction of the program does on the in-order machine.
-use Rattle.std.proofs.Common.{◌≡◌, ◌<◌, ◌+◌, ◌-◌, ◌*◌, ◌/◌, ◌%◌, ◌^◌, ◌==◌, ℕ, Bool, true, false, not, cond, List, [], ◌∷◌, replicate, Some, None, refl, sym, ap, ◌∙◌, arith, if◌then◌else◌}
+use Rattle.std.proofs.Common.{◌≡◌, ◌<◌, ◌+◌, ◌*◌, ◌/◌, ◌%◌, ◌^◌, ◌==◌, ℕ, Bool, true, false, not, [], ◌∷◌, replicate, Some, None, refl, ap, ◌∙◌, arith, if◌then◌else◌}
 use Rattle.std.proofs.lemmas.Bool.Decides.{nat_tests}
 use Rattle.rv32_table.specs.declared.instr.Instr.{Instr}
 use Rattle.rv32_table.specs.declared.rows.Row.TheVariants.{Addi, Bne, Ecall as EcallRow}
-use Rattle.rv32_table.specs.declared.control.Next.{Next}
 use Rattle.rv32_table.specs.declared.control.Next.TheVariants.{Go}
 use Rattle.rv32_table.specs.Word.{wrapped, sign_extended}
 use Rattle.rv32_table.specs.Instr.{instr_of, decoded, rd_field}
@@ -12,15 +11,14 @@ use Rattle.coproc_config.specs.Accept.{hit_of}
 use Rattle.xif_image.specs.Region.{Region, word_at}
 use Rattle.inorder_machine.specs.declared.line.Retire.{Retire}
 use Rattle.inorder_machine.specs.declared.line.Write.TheVariants as write
-use Rattle.inorder_machine.specs.declared.line.Stepped.{Stepped}
 use Rattle.inorder_machine.specs.declared.line.Stepped.TheVariants.{Retired, Stop}
 use Rattle.inorder_machine.specs.declared.stop.StopCause.TheVariants.{Ecall}
 use Rattle.inorder_machine.specs.Execute.{At, line_of, executed, control_outcome}
 use Rattle.inorder_machine.specs.Units.{unit_write}
-use Rattle.inorder_machine.specs.Machine.{Extension, State, register_of, unit_outcome, outcome_at, offered_outcome, decoded_outcome, fetched_outcome, next_step, units_offered, units_decoded, units_after, moved}
+use Rattle.inorder_machine.specs.Machine.{Extension, State, register_of, unit_outcome, offered_outcome, decoded_outcome, fetched_outcome, next_step, units_offered, units_decoded, units_after, moved}
 use Rattle.inorder_machine.specs.After.{next_state, state_if_retired}
-use Rattle.generator.specs.Generated.{params, set, lui_word, addi_word, upper_bits, lower_bits}
-use Rattle.generator_laws.proofs.Words.{lui, lui-is, addi, addi-is, parts-add, upper-small, lower-small}
+use Rattle.generator.specs.Generated.{params, set, lui_word, addi_word}
+use Rattle.generator_laws.proofs.Words.{lui, lui-is, addi, addi-is}
 
 abbrev pub extension : Extension
 extension = record { set = set; params = params }

@@ -9,8 +9,7 @@ use Rattle.std.proofs.lemmas.Bool.Decides.{nat_tests}
 use Rattle.rv32_table.specs.declared.instr.Instr.{Instr}
 use Rattle.rv32_table.specs.declared.rows.Row.TheVariants.{Lui, Addi}
 use Rattle.rv32_table.specs.Word.{bits, wrapped, sign_extended}
-use Rattle.rv32_table.specs.Table.{row_line}
-use Rattle.rv32_table.specs.Instr.{matches, row_of, instr_of, decoded}
+use Rattle.rv32_table.specs.Instr.{row_of, instr_of, decoded}
 use Rattle.rv32_table.proofs.Distinct.{found}
 use Rattle.rv32_table.proofs.Masks.{and_opcode}
 use Rattle.xif_image.specs.Region.{Region, is_inside, word_at}

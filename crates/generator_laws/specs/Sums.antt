@@ -1,5 +1,5 @@
 -- How the run of a generated program ends, and what it leaves.
-use Rattle.std.specs.Prelude.{◌≡◌, ◌≤◌, ◌<◌, ◌+◌, ◌*◌, ◌^◌, ℕ, List, [], ◌∷◌, length, replicate}
+use Rattle.std.specs.Prelude.{◌≡◌, ◌≤◌, ◌<◌, ◌+◌, ◌*◌, ◌^◌, ℕ, [], ◌∷◌, length, replicate}
 use Rattle.coproc_config.specs.Bits.{low_half, high_half}
 use Rattle.inorder_machine.specs.declared.stop.StopCause.TheVariants.{Ecall}
 use Rattle.cycle_spec.specs.declared.log.End.TheVariants.{Stopped}
@@ -32,7 +32,7 @@ pub record EndsByEcall (count : ℕ) (run : Run) : Type 0 where
   pub pc : run.pc ≡ 36
   -- four instructions before the loop, three in each round, and two behind it
   pub retired : length run.retired ≡ 3 * count + 6
-  -- each of these, and the ECALL, took 64 cycles at most
+  -- there are at most 64 cycles for each of these and for the ECALL
   pub cycles : length run.buses ≤ 64 * (3 * count + 7)
 
 -- A run leaves `count` times the seed.

@@ -10,8 +10,8 @@ pub fn gen_ends_by_ecall<P>()
         EndsByEcall count (run_of meaning (setup_of seed count) predictor) }
 {}
 
-/// What it leaves is the sum of `count` seeds, in the accumulator and in x3 and x4. All else but the
-/// seed in x2 is as it started.
+/// What it leaves is the sum of `count` seeds, in the accumulator and in x3 and x4. All else is as
+/// it started, but for the seed in x2.
 pub fn gen_sums<P>()
     ensures { (meaning : Meaning P) (seed count : ℕ) (predictor : P) → IsRequest seed count →
         Sums seed count (run_of meaning (setup_of seed count) predictor) }

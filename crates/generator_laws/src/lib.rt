@@ -4,10 +4,10 @@
 //! each seed and count, for every predictor.
 //!
 //! In `proofs/`, `Words` has what the words of the program are, `Steps` what each of them does on
-//! the in-order machine, and `Rounds` that machine from the first instruction to the ECALL. `Ending`
-//! carries it over to the run: a run leaves what the in-order machine leaves after as many
-//! instructions (`cycle_refines`), and if it ended by its budget it would have retired more than
-//! there are (`pace_laws`).
+//! the in-order machine, and `Rounds` that machine from the first instruction to the ECALL. `Pace`
+//! shows that the budget is enough. `Ending` carries it over to the run: a run leaves what the
+//! in-order machine leaves after as many instructions (`cycle_refines`), and if it ended by its
+//! budget it would have retired more than there are (`pace_laws`).
 #![tactic(auto)]
 
 mod laws;
