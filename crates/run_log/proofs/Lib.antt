@@ -5,3 +5,4 @@ pub mod Lines
 pub mod Numbered
 pub mod Parts
 pub mod Unique
+pub mod Figures

@@ -5,6 +5,7 @@ ghost use Rattle.run_log.specs.Growth.{Appends};
 ghost use Rattle.run_log.specs.Log.{line_text, lines_text, retire_lines, write_lines, store_lines, cut_lines, dispatch_lines, drain_lines, stop_lines, cycle_text, text_from};
 
 use crate::line::Line;
+use crate::push::push_line;
 use cycle_spec::{Cut, CycleLog, Dispatch};
 use inorder_machine::{Retire, StopCause, Store, Write};
 use std::alloc::{AllocError, Global};
@@ -33,12 +34,6 @@ pub fn push_cycle(text: &mut String, cycle: u64, log: &CycleLog) -> Result<(), N
     push_drain(text, cycle, log.drained)?;
     push_stop(text, cycle, log.stopped, log.pc)?;
     Ok(())
-}
-
-fn push_line(text: &mut String, cycle: u64, line: Line) -> Result<(), AllocError>
-    ensures { OnOk result (Appends text.old text.new (line_text cycle line)) }
-{
-    writeln!(text, "{cycle} {line}")
 }
 
 fn push_retire(text: &mut String, cycle: u64, retired: Option<Retire>) -> Result<(), AllocError>

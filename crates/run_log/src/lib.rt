@@ -11,6 +11,7 @@ mod cycle;
 mod hex;
 mod laws;
 mod line;
+mod push;
 mod words;
 
 pub use cycle::{log_text, push_cycle};

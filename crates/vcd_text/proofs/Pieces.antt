@@ -1,5 +1,5 @@
 -- The pieces that are written, joined.
-use Rattle.std.proofs.Common.{◌≡◌, ◌+◌, ◌/◌, ◌%◌, ◌<◌, ◌≤◌, ℕ, Bool, true, false, cond, List, [], ◌∷◌, ◌++◌, map, length, drop, get_or, sym, refl, ap, ◌∙◌, append_assoc, arith, Some, drop-cons, add-one, subst}
+use Rattle.std.proofs.Common.{◌≡◌, ◌+◌, ◌-◌, ◌*◌, ◌^◌, ◌/◌, ◌%◌, ◌<◌, ◌≤◌, ℕ, zero, suc, set, length-set, Bool, true, false, cond, List, [], ◌∷◌, ◌++◌, map, length, drop, get_or, sym, refl, ap, ◌∙◌, append_assoc, arith, Some, drop-cons, add-one, subst}
 use Rattle.xif_signals.specs.declared.sample.Quad.{Quad}
 use Rattle.std.specs.Prelude.{nat_lt}
 use Rattle.std.proofs.lemmas.Bool.Decides.{nat_tests}
@@ -8,18 +8,34 @@ use Rattle.xif_signals.specs.Signal.{width_of}
 use Rattle.std.specs.List.{flat_map}
 use Rattle.std.specs.Int.Digits.{digits_of}
 use Rattle.std.proofs.lemmas.Int.Digits.{digits_of_step}
-use Rattle.std.proofs.lemmas.List.{map-append, append-nil, length-append}
+use Rattle.std.proofs.lemmas.List.{map-append, append-nil, length-append, drop-set}
+use Rattle.std.proofs.Math.Nat.{div-mul-le_self, mul-le-mul_left, two-pow-succ}
 use Rattle.xif_base.specs.declared.params.Params.{Params}
 use Rattle.xif_signals.specs.declared.bus.Bus.{Bus}
 use Rattle.xif_signals.specs.Bus.{sample_of}
 use Rattle.vcd_text.specs.Written.{wires, cycle_text, cycles_text, end_text, vcd_text_of}
 use Rattle.vcd_text.specs.Writing.{Progress, Wrote}
 
-pub digits_push : (out mid new : List ℕ) (b n : ℕ) → 2 ≤ b → 0 < n → mid ≡ out ++ map (λ d. 48 + d) (digits_of b (n / b)) → new ≡ mid ++ (48 + n % b) ∷ [] → new ≡ out ++ map (λ d. 48 + d) (digits_of b n)
-digits_push out mid new b n h k e f =
-    f ∙ ap (λ m. m ++ (48 + n % b) ∷ []) e
-    ∙ append_assoc out (map (λ d. 48 + d) (digits_of b (n / b))) ((48 + n % b) ∷ [])
-    ∙ ap (λ m. out ++ m) (sym (ap (map (λ d. 48 + d)) (digits_of_step b n h k) ∙ map-append (λ d. 48 + d) (digits_of b (n / b)) (n % b ∷ [])))
+-- a digit is put before those that are written
+pub digits_put : (b n total : ℕ) (start : ℕ) (digits : List ℕ) → 2 ≤ b → 0 < n → start ≤ 64 → length digits ≡ 64 → n < 2 ^ start → map (λ d. 48 + d) (digits_of b n) ++ drop start digits ≡ map (λ d. 48 + d) (digits_of b total)
+    → (start - 1 ≤ 64) × (length (set digits (start - 1) (48 + n % b)) ≡ 64) × (n / b < 2 ^ (start - 1)) × (map (λ d. 48 + d) (digits_of b (n / b)) ++ drop (start - 1) (set digits (start - 1) (48 + n % b)) ≡ map (λ d. 48 + d) (digits_of b total))
+digits_put b n total zero digits h k room len small e = absurd (omega (arith, small, k))
+digits_put b n total (suc j) digits h k room len small e =
+    let half : n / b * 2 ≤ n / b * b = mul-le-mul_left (n / b) h in
+    let less : n / b < 2 ^ j = omega (arith, half, div-mul-le_self n b, two-pow-succ j, small) in
+    let within : j < length digits = omega (arith, len, room) in
+    let shown = λ (ds : List ℕ). map (λ d. 48 + d) ds in
+    let before : suc j - 1 ≡ j = omega arith in
+    let next : drop j (set digits j (48 + n % b)) ≡ (48 + n % b) ∷ drop (suc j) digits = drop-set digits j (48 + n % b) within ∙ ap (λ i. (48 + n % b) ∷ drop i digits) (add-one j) in
+    rw before (
+      omega (arith, room),
+      length-set digits j (48 + n % b) ∙ len,
+      less,
+      ap (λ t. shown (digits_of b (n / b)) ++ t) next
+          ∙ sym (append_assoc (shown (digits_of b (n / b))) ((48 + n % b) ∷ []) (drop (suc j) digits))
+          ∙ ap (λ t. t ++ drop (suc j) digits) (sym (ap shown (digits_of_step b n h k) ∙ map-append (λ d. 48 + d) (digits_of b (n / b)) (n % b ∷ [])))
+          ∙ e,
+    )
 
 -- behind one more cycle
 pub wrote_cycle : (w : Progress) (b : Bus) (buses : List Bus) (text piece : List ℕ) → piece ≡ cycle_text w.params w.cycles w.last (sample_of b) → Wrote w buses text → Wrote (record { params = w.params; cycles = w.cycles + 1; last = Some (sample_of b) }) (buses ++ b ∷ []) (text ++ piece)

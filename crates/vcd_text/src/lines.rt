@@ -8,6 +8,9 @@ ghost use Rattle.vcd_text.specs.Written.{numeral, var_line, time_line, clock_lin
 use xif_base::{NoMemory, Params};
 use xif_signals::Signal;
 
+/// How many digits a number has at most.
+const MOST_DIGITS: usize = 64;
+
 /// The declaration of the variable of a signal (18.2.3, `$var`).
 pub(crate) fn put_variable(
     text: &mut Vec<u8>,
@@ -60,6 +63,7 @@ pub(crate) fn put_change(
 }
 
 /// A number without leading zeros.
+#[inline(always)]
 fn put_numeral(text: &mut Vec<u8>, base: u64, n: u64) -> Result<(), NoMemory>
     requires low { 2 ≤ base }
     requires high { base ≤ 10 }
@@ -74,15 +78,21 @@ fn put_numeral(text: &mut Vec<u8>, base: u64, n: u64) -> Result<(), NoMemory>
 }
 
 /// The digits of a number, and nothing for 0.
+#[inline(always)]
 fn put_digits(text: &mut Vec<u8>, base: u64, n: u64) -> Result<(), NoMemory>
     requires low { 2 ≤ base }
     requires high { base ≤ 10 }
     ensures { OnOk result
         (text.new.items ≡ text.old.items ++ map (λ d. zero_digit + d) (digits_of base n)) }
 {
-    if n > 0 {
-        put_digits(text, base, n / base)?;
-        text.push(b'0' + (n % base) as u8)?;
+    let mut digits = [0; MOST_DIGITS];
+    let mut start = MOST_DIGITS;
+    let mut rest = n;
+    while rest > 0 {
+        start -= 1;
+        digits[start] = b'0' + (rest % base) as u8;
+        rest /= base;
     }
+    text.extend_from_slice(&digits[start..])?;
     Ok(())
 }
