@@ -1,5 +1,5 @@
 //! What `judge` says of the trace that `run` wrote.
-ghost use Rattle.std.specs.Prelude.{◌≡◌, List, String};
+ghost use Rattle.std.specs.Prelude.{List, String};
 ghost use Rattle.std.specs.declared.alloc.Global.{Global};
 ghost use Rattle.xif_base.specs.Files.{Files};
 ghost use Rattle.xif_job.specs.declared.job.Job.{Job};
@@ -12,7 +12,7 @@ ghost use Rattle.command_laws.specs.Commands.{HoldBytes, Runs, Judges, KeepsTrac
 /// than `judge` reads is refused as too big.
 pub fn trace_is_judged_legal()
     ensures { (run_words judge_words : List (String Global)) (before after : Files) (job : Job)
-        (answer : Answer) → HoldBytes before → job.params.dual_read ≡ 0 →
+        (answer : Answer) → HoldBytes before →
         Runs run_words before job answer → KeepsTrace before after job answer →
         Judges judge_words after job → IsJudgedLegal judge_words after job.trace answer.printed }
 {}
