@@ -6,3 +6,4 @@ pub mod Words
 pub mod Ends
 pub mod Flying
 pub mod Steps
+pub mod Entering
