@@ -245,3 +245,16 @@ module _ (session : List Bus) (b : Bus) (ch : Choices) (offers : Offers ch b) wh
           let younger = Each-from (λ e. Apart p e × (is_response_accepted e.response ≡ false)) S f.younger (λ e k. one e k.0) a.1 in
           let h = head-of session b (valid-own p o) in
           subst (Each S) (sym f.here) (Each-append S f.older (p ∷ f.younger) older (λ t. New h f.passes (latest-own p h o), younger))
+
+  -- what was answered stays so
+  pub answers-stay : (fl : List Entry) → IfSome ch.offer (FirstAt is_open fl) → Pairs Before fl → Pairs Behind fl → Each IsEntry fl → Each (λ e. is_response_accepted e.response ≡ true → (first_change ch b e).response ≡ e.response) fl
+  answers-stay fl f before behind ok = go ch.offer refl f
+    where
+      go : (o : Option Entry) → ch.offer ≡ o → IfSome o (FirstAt is_open fl) → Each (λ e. is_response_accepted e.response ≡ true → (first_change ch b e).response ≡ e.response) fl
+      go None o f = each (λ e. is_response_accepted e.response ≡ true → (first_change ch b e).response ≡ e.response) fl (λ e t. response-none e o)
+      go (Some p) o f =
+          let S = λ (e : Entry). is_response_accepted e.response ≡ true → (first_change ch b e).response ≡ e.response in
+          let a = all-apart p fl f before behind ok in
+          let older = Each-from (Apart p) S f.older (λ e k t. response-other p e o k) a.0 in
+          let younger = Each-from (λ e. Apart p e × (is_response_accepted e.response ≡ false)) S f.younger (λ e k t. response-other p e o k.0) a.1 in
+          subst (Each S) (sym f.here) (Each-append S f.older (p ∷ f.younger) older (λ t. absurd (not-both (is_response_accepted p.response) (none-refused p.response (open-none p f.passes)) t), younger))

@@ -7,3 +7,6 @@ pub mod Ends
 pub mod Flying
 pub mod Steps
 pub mod Entering
+pub mod Leaving
+pub mod Past
+pub mod Cycling

@@ -189,7 +189,7 @@ at-latest P key (x ∷ ls) l h q = go (is_of key x) q (λ k. at-latest P key ls 
     go true q ih = subst (Older P) (some-is x l q) (record { older = ls; holds = h.0 })
     go false q ih = ih q
 
-ready-released : (l : Life) (older : List Life) → is_ready l older ≡ true → is_released l ≡ true
+pub ready-released : (l : Life) (older : List Life) → is_ready l older ≡ true → is_released l ≡ true
 ready-released l older h = go (ready_cycle l older) refl h
   where
     go : (o : Option ℕ) → ready_cycle l older ≡ o → is_some o ≡ true → is_released l ≡ true

@@ -142,7 +142,7 @@ live-at params set ls m k us older e younger h l =
     }
 
 -- a fact of each place of a list
-at-each : {A : Type 0} (P : A → Type 0) (front xs : List A) → ((older : List A) (x : A) (younger : List A) → front ++ xs ≡ older ++ x ∷ younger → P x) → Each P xs
+pub at-each : {A : Type 0} (P : A → Type 0) (front xs : List A) → ((older : List A) (x : A) (younger : List A) → front ++ xs ≡ older ++ x ∷ younger → P x) → Each P xs
 at-each P front [] h = tt
 at-each P front (x ∷ xs) h = (h front x xs refl, at-each P (front ++ x ∷ []) xs (λ older y younger q. h older y younger (sym (Rattle.std.proofs.Common.append_assoc front (x ∷ []) xs) ∙ q)))
 
