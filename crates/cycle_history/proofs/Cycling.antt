@@ -188,15 +188,15 @@ module _ (x : Extension) (start : State) (session : List Bus) (b : Bus) (m : Mac
 
 -- ---- what the cycle leaves of the uses
 
-walk-front : (x : Extension) (P : State → Entry → Type 0) (xs ys : List Entry) (s : State) → Walk x P s (xs ++ ys) → Walk x P s xs
+pub walk-front : (x : Extension) (P : State → Entry → Type 0) (xs ys : List Entry) (s : State) → Walk x P s (xs ++ ys) → Walk x P s xs
 walk-front x P [] ys s h = tt
 walk-front x P (e ∷ xs) ys s h = (h.0, walk-front x P xs ys (Rattle.cycle_history.proofs.Flying.behind x s e) h.1)
 
-walk-forget : (x : Extension) (P : State → Entry → Type 0) (Q : Entry → Type 0) (es : List Entry) (s : State) → ((s : State) (e : Entry) → P s e → Q e) → Walk x P s es → Each Q es
+pub walk-forget : (x : Extension) (P : State → Entry → Type 0) (Q : Entry → Type 0) (es : List Entry) (s : State) → ((s : State) (e : Entry) → P s e → Q e) → Walk x P s es → Each Q es
 walk-forget x P Q [] s f h = tt
 walk-forget x P Q (e ∷ es) s f h = (f s e h.0, walk-forget x P Q es (Rattle.cycle_history.proofs.Flying.behind x s e) f h.1)
 
-each-unreversed : {A : Type 0} (P : A → Type 0) (xs : List A) → Each P (reverse xs) → Each P xs
+pub each-unreversed : {A : Type 0} (P : A → Type 0) (xs : List A) → Each P (reverse xs) → Each P xs
 each-unreversed P [] h = tt
 each-unreversed P (e ∷ xs) h =
     let h' = subst (Each P) (reverse-cons e xs) h in
@@ -216,7 +216,7 @@ with-accepted session b = go (starts (last_bus session) b (lives_of session))
     go true = refl
     go false = refl
 
-without : (session : List Bus) (b : Bus) (P : Life → Type 0) → Each P (lives_with session b) → Each P (lives_of session)
+pub without : (session : List Bus) (b : Bus) (P : Life → Type 0) → Each P (lives_with session b) → Each P (lives_of session)
 without session b P h = go (starts (last_bus session) b (lives_of session)) h
   where
     go : (t : Bool) → Each P (if t then new_life (issue_key b) (length session) b.issue_instr ∷ lives_of session else lives_of session) → Each P (lives_of session)
@@ -231,7 +231,7 @@ newly-one f (l ∷ ls) = go (not (is_accepted l) && is_accepted (f l))
     go true = refl
     go false = refl
 
-newly-accepted : (f : Life → Life) (ls : List Life) → Each (λ l. is_accepted (f l) ≡ true) (newly f ls)
+pub newly-accepted : (f : Life → Life) (ls : List Life) → Each (λ l. is_accepted (f l) ≡ true) (newly f ls)
 newly-accepted f [] = tt
 newly-accepted f (l ∷ ls) = go (is_accepted l) (is_accepted (f l)) refl
   where

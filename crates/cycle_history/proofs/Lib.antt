@@ -10,3 +10,4 @@ pub mod Entering
 pub mod Leaving
 pub mod Past
 pub mod Cycling
+pub mod Listing
