@@ -11,3 +11,5 @@ pub mod Leaving
 pub mod Past
 pub mod Cycling
 pub mod Listing
+pub mod Going
+pub mod Runs
