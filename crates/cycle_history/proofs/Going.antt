@@ -175,7 +175,7 @@ same-settled m =
     settled-is (choices m.core) (core_bus_at m 0) (is_issued b) (response_on b) (is_given b) (is_taken b) b.result_id b.result_we b.result_data m.core.flight refl refl refl (record { taken = refl; id_is = refl; we_is = refl; data_is = refl })
     ∙ sym (settled-is (choices m.core) b (is_issued b) (response_on b) (is_given b) (is_taken b) b.result_id b.result_we b.result_data m.core.flight refl refl refl (record { taken = refl; id_is = refl; we_is = refl; data_is = refl }))
 
-flight-after : (m : Machines) (answer : ℕ → ℕ → ℕ) → (cycle m 0 answer).core.flight ≡ with_dispatch (dispatch_of answer m.core (choices m.core)) (retire_step (choices m.core).retire (map (whole_change (choices m.core) (bus_at m 0) m.core.flight) (cutting (choices m.core) m.core.flight)))
+pub flight-after : (m : Machines) (answer : ℕ → ℕ → ℕ) → (cycle m 0 answer).core.flight ≡ with_dispatch (dispatch_of answer m.core (choices m.core)) (retire_step (choices m.core).retire (map (whole_change (choices m.core) (bus_at m 0) m.core.flight) (cutting (choices m.core) m.core.flight)))
 unfolding cycle
 flight-after m answer = ap (with_dispatch (dispatch_of answer m.core (choices m.core))) (same-settled m ∙ settled-map (choices m.core) (bus_at m 0) m.core.flight)
 

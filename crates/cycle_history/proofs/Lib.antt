@@ -13,3 +13,4 @@ pub mod Cycling
 pub mod Listing
 pub mod Going
 pub mod Runs
+pub mod Whole
