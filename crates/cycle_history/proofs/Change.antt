@@ -1,17 +1,14 @@
 -- What a cycle makes of each use, by one function.
-use Rattle.std.proofs.Common.{◌≡◌, ◌⊎◌, inl, inr, ◌<◌, ◌+◌, ◌==◌, ◌&&◌, ◌++◌, not, if◌then◌else◌, ℕ, Bool, true, false, Option, Some, None, List, [], ◌∷◌, map, filter, length, refl, sym, ap, ap₂, ◌∙◌, subst, arith}
+use Rattle.std.proofs.Common.{◌≡◌, ◌⊎◌, inl, inr, ◌==◌, ◌&&◌, ◌++◌, not, if◌then◌else◌, ℕ, Bool, true, false, Option, Some, None, List, [], ◌∷◌, map, filter, refl, sym, ap, ◌∙◌, subst}
 use Rattle.std.specs.Prelude.{is_some, is_none}
 use Rattle.std.specs.Option.{option_map, option_map_or}
-use Rattle.std.proofs.lemmas.Bool.{eqb-true, eq-eqb}
 use Rattle.xif_base.specs.declared.params.Key.{Key}
 use Rattle.xif_signals.specs.declared.bus.Bus.{Bus}
 use Rattle.xif_session.specs.Facts.{same_key, issue_key, register_key, commit_key, result_key, is_issued, is_given, is_taken}
-use Rattle.xif_session.specs.Uses.{last_bus}
-use Rattle.engine_history.specs.Lives.{Life, Answer, Operands, Verdict, new_life, is_accepted, is_killed, is_released, latest, start_of, starts, with_start, change_if, at_start, answer_on, accepted_in, answered, operands_on, given, is_in_group, decided_by, decided, finished, changed, lives_of, lives_with}
+use Rattle.engine_history.specs.Lives.{Life, Answer, Operands, Verdict, is_accepted, latest, start_of, change_if, at_start, answer_on, accepted_in, answered, operands_on, given, is_in_group, decided_by, decided, changed}
 use Rattle.cycle_lists.specs.Lists.{Each}
-use Rattle.engine_history.proofs.Keep.{Keeps, Rising, HeadWaits, rising, rising_start, head_with, latest_map, IsChanged, answered_is, given_is, decided_is, start_changed}
+use Rattle.engine_history.proofs.Keep.{latest_map, answered_is, given_is, decided_is, start_changed}
 use Rattle.engine_history.proofs.Grown.{Grew, Old, Each2, Grown, stays}
-use Rattle.engine_history.proofs.Cycle.{changed_grown}
 
 -- ---- a change of the use that a key names
 

@@ -1,12 +1,10 @@
 -- A cycle, up to its retirement: the accepted uses that aren't killed are those of before that
 -- aren't killed in it, and the one that it accepts.
-use Rattle.std.proofs.Common.{◌≡◌, ◌≢◌, ◌+◌, ◌==◌, ◌&&◌, ◌++◌, not, if◌then◌else◌, ℕ, zero, suc, Bool, true, false, Option, Some, None, IfSome, List, [], ◌∷◌, map, filter, take, drop, length, reverse, refl, sym, ap, ap₂, ◌∙◌, subst, append-nil, append_assoc}
-use Rattle.std.specs.Prelude.{is_some, find, ⊤}
-use Rattle.std.specs.Option.{option_map, option_map_or}
-use Rattle.std.specs.List.{filter_map}
+use Rattle.std.proofs.Common.{◌≡◌, ◌==◌, ◌&&◌, ◌++◌, not, if◌then◌else◌, ℕ, zero, suc, Bool, true, false, Option, Some, None, IfSome, List, [], ◌∷◌, map, filter, take, drop, length, reverse, refl, sym, ap, ◌∙◌, subst, append-nil, append_assoc}
+use Rattle.std.specs.Prelude.{is_some}
+use Rattle.std.specs.Option.{option_map_or}
 use Rattle.std.proofs.lemmas.List.{reverse-append}
-use Rattle.std.proofs.lemmas.Bool.{eqb-true, eq-eqb}
-use Rattle.xif_base.specs.declared.params.Key.{Key}
+use Rattle.std.proofs.lemmas.Bool.{eqb-true}
 use Rattle.inorder_machine.specs.Machine.{Extension, State}
 use Rattle.xif_signals.specs.declared.bus.Bus.{Bus}
 use Rattle.xif_session.specs.Facts.{issue_key, is_taken, is_accepted as is_response_accepted}
@@ -14,36 +12,31 @@ use Rattle.xif_session.specs.Uses.{last_bus}
 use Rattle.cycle_spec.specs.declared.choices.Choices.{Choices}
 use Rattle.cycle_spec.specs.declared.choices.Executed.{Executed}
 use Rattle.cycle_spec.specs.declared.entry.Entry.{Entry}
-use Rattle.cycle_spec.specs.declared.entry.EntryKind.TheVariants.{Local}
-use Rattle.cycle_spec.specs.declared.use_of.Use.{Use}
 use Rattle.cycle_spec.specs.Flight.{is_unknown, is_unknown_kind, is_open, holds_id}
 use Rattle.cycle_spec.specs.Core.{retire_step, with_dispatch, kept_entries}
 use Rattle.cycle_spec.specs.Core as core
 use Rattle.cycle_spec.specs.Cycle.{Machines}
 use Rattle.cycle_lists.specs.Lists.{Each, Pairs, FirstAt}
 use Rattle.cycle_lists.specs.Order.{Before}
-use Rattle.cycle_lists.proofs.Tests.{and-left, and-right, and-both, not-both, not-in, same-some, some-at, some-is, none-some}
-use Rattle.cycle_lists.proofs.Every.{each, Each-from, Each-both, Each-at, Each-map, Each-front, Each-back, Each-append, Each-drop, Each-filter, Each-passed, Pairs-older}
+use Rattle.cycle_lists.proofs.Tests.{and-left, and-right, and-both, not-both, same-some, none-some}
+use Rattle.cycle_lists.proofs.Every.{each, Each-from, Each-both, Each-at, Each-map, Each-front, Each-back}
 use Rattle.cycle_lists.proofs.Places.{first-at}
-use Rattle.cycle_paired.specs.Paired.{is_live, live_entries, IsEntry, Behind, Paired}
-use Rattle.cycle_paired.proofs.Facts.{accepted-some, open-undone, open-unknown, only, live-some}
+use Rattle.cycle_paired.specs.Paired.{is_live, IsEntry, Paired}
+use Rattle.cycle_paired.proofs.Facts.{accepted-some, open-undone, open-unknown, only}
 use Rattle.cycle_paired.proofs.Choosing.{Unreleased, Way, Quiet, Releases, Cuts}
-use Rattle.cycle_paired.proofs.Executing.{Exec, Execs}
+use Rattle.cycle_paired.proofs.Executing.{Execs}
 use Rattle.engine_history.specs.Lives.{Life, Answer, Verdict, new_life, is_accepted, is_killed, is_released, latest, starts, lives_of, lives_with}
-use Rattle.engine_history.specs.Told.{latest_uses, whole_uses}
-use Rattle.engine_history.proofs.Units.{AllAnswers}
-use Rattle.cycle_history.specs.Words.{UnitWord, unit_words}
-use Rattle.cycle_history.specs.Uses.{IsUseOf, AreUsesOf, is_kept}
-use Rattle.cycle_history.proofs.Change.{Kept, Judged, Stays, Comes, newly, grown-verdict, accepted-split, latest-grown}
-use Rattle.cycle_history.proofs.Told.{LiveLife, all-live, live-killed, at-each}
-use Rattle.cycle_history.proofs.Results.{Cycle, grow, lives-after, cycle-grown, cycle-kept, ResultLife, result-life, each-latest, kept-stays}
+use Rattle.cycle_history.specs.Uses.{IsUseOf, is_kept}
+use Rattle.cycle_history.proofs.Change.{Kept, Judged, Stays, Comes, newly, grown-verdict, accepted-split}
+use Rattle.cycle_history.proofs.Told.{LiveLife, all-live, at-each}
+use Rattle.cycle_history.proofs.Results.{Cycle, grow, lives-after, cycle-grown, cycle-kept, result-life, each-latest, kept-stays}
 use Rattle.cycle_history.proofs.Words.{Words, HasWord}
 use Rattle.cycle_history.proofs.Ends.{use-on, Served, new-use}
 use Rattle.cycle_history.proofs.Flying.{life_at, flying, is_counted, Walk, walk-both, walk-each, walk-map, map-appended, map-reversed, filter-reversed, filter-mapped, filter-both, filter-within, map-filtered, filtered-map, filtered-same, chosen-each, reverse-cons}
-use Rattle.cycle_history.proofs.Steps.{first_change, whole_change, cutting, result_entry, kept-map, first-id, first-seq, whole-id, whole-response, keeps-place, Doing, Was, Given, Executes, whole-done, done-stays}
-use Rattle.cycle_history.proofs.Entering.{Head, Seat, Old, New, Offers, entered, seats, answers-stay}
-use Rattle.cycle_history.proofs.Leaving.{result-key, result-own, KeptLife, kept-unkilled, after-latest, gone-killed, parted}
-use Rattle.cycle_history.proofs.Past.{DoneUse, Done, Lists}
+use Rattle.cycle_history.proofs.Steps.{first_change, whole_change, cutting, result_entry, kept-map, first-id, first-seq, whole-id, whole-response, keeps-place, Doing, Was, Given, Executes, whole-done}
+use Rattle.cycle_history.proofs.Entering.{Seat, Old, New, Offers, seats, answers-stay}
+use Rattle.cycle_history.proofs.Leaving.{result-key, result-own, kept-unkilled, after-latest}
+use Rattle.cycle_history.proofs.Past.{DoneUse, Done}
 
 -- ---- lists
 

@@ -1,7 +1,6 @@
 -- Each issue handshake has the response of the units to its word.
-use Rattle.std.proofs.Common.{◌≡◌, ◌&&◌, Bool, true, false, if◌then◌else◌, Option, Some, None, List, [], ◌∷◌, refl, sym, ap, ◌∙◌}
+use Rattle.std.proofs.Common.{◌≡◌, ◌&&◌, Bool, true, false, if◌then◌else◌, None, List, [], ◌∷◌, sym, ap, ◌∙◌}
 use Rattle.xif_base.specs.declared.params.Params.{Params}
-use Rattle.coproc_config.specs.declared.accept.Hit.{Hit}
 use Rattle.coproc_config.specs.Set.{UnitTable}
 use Rattle.xif_drive.specs.Scripts.{Lists}
 use Rattle.xif_signals.specs.declared.bus.Bus.{Bus}
@@ -15,7 +14,6 @@ use Rattle.cycle_lists.specs.Lists.{Each}
 use Rattle.ahead_spec.specs.Operands.{word_hit, response_of}
 use Rattle.engine_history.specs.Runs.{cpu_of, cop_of, engine_of, IsDriven}
 use Rattle.engine_history.proofs.Kept.{told}
-use Rattle.engine_history.proofs.Fields.{IsTold}
 
 response_cop : CopOut → Response
 response_cop c = record {

@@ -1,12 +1,9 @@
 -- A use that has its result, and the word of the in-order machine that it is for.
-use Rattle.std.proofs.Common.{◌≡◌, ◌⊎◌, inl, inr, ◌+◌, ◌*◌, ◌^◌, ◌%◌, ◌/◌, ◌==◌, ◌&&◌, ◌||◌, ◌++◌, not, if◌then◌else◌, ℕ, zero, suc, Bool, true, false, Option, Some, None, IfSome, List, [], ◌∷◌, filter, length, refl, sym, ap, ◌∙◌, subst, arith}
+use Rattle.std.proofs.Common.{◌≡◌, ◌⊎◌, inl, inr, ◌+◌, ◌*◌, ◌^◌, ◌%◌, ◌/◌, ◌==◌, ◌&&◌, ◌||◌, ◌++◌, if◌then◌else◌, ℕ, zero, suc, Bool, true, false, Option, Some, None, IfSome, List, [], ◌∷◌, length, refl, sym, ap, ◌∙◌, subst, arith}
 use Rattle.std.specs.Prelude.{is_some, IsSome}
 use Rattle.std.specs.Option.{option_map_or}
 use Rattle.std.proofs.lemmas.Bool.{eqb-true, eq-eqb}
 use Rattle.rv32_table.specs.Instr.{rd_field}
-use Rattle.xif_base.specs.declared.params.Params.{Params}
-use Rattle.coproc_config.specs.declared.accept.Hit.{Hit}
-use Rattle.coproc_config.specs.Set.{UnitTable}
 use Rattle.xif_signals.specs.declared.bus.Bus.{Bus}
 use Rattle.xif_signals.specs.declared.bus.CopOut.{CopOut}
 use Rattle.xif_session.specs.Facts.{is_taken, is_given}
@@ -17,21 +14,19 @@ use Rattle.cycle_spec.specs.declared.entry.Entry.{Entry}
 use Rattle.cycle_spec.specs.declared.use_of.Use.{Use}
 use Rattle.cycle_spec.specs.Engine as spec
 use Rattle.cycle_spec.specs.Cycle.{Machines}
-use Rattle.cycle_lists.specs.Lists.{Each, Pairs}
-use Rattle.cycle_lists.proofs.Tests.{same-some, not-both}
+use Rattle.cycle_lists.specs.Lists.{Pairs}
+use Rattle.cycle_lists.proofs.Tests.{same-some}
 use Rattle.cycle_lists.proofs.Every.{Each-at, Pairs-younger}
 use Rattle.cycle_paired.specs.Paired.{IsUse, Older, Paired}
-use Rattle.cycle_paired.proofs.Carrying.{Carries}
 use Rattle.cycle_paired.proofs.Lasting.{carried-at}
 use Rattle.cycle_paired.proofs.Matching.{latest-at}
 use Rattle.ahead_spec.specs.Operands.{word_hit, halves_read, lanes_of, CarriesOperands, unit_step}
 use Rattle.ahead_laws.proofs.Carried.{carries-nothing}
 use Rattle.engine_history.specs.Lives.{Life, Answer, Operands, lanes_on, operands_on, start_of, latest, lives_of, lives_with, is_accepted}
 use Rattle.engine_history.specs.Channels.{is_for}
-use Rattle.engine_history.specs.Told.{latest_uses, whole_uses}
 use Rattle.cycle_history.specs.Words.{UnitWord}
-use Rattle.cycle_history.specs.Uses.{Result, results_for, HasItsResult, IsUseOf}
-use Rattle.cycle_history.proofs.Change.{Kept, grown, grown-word, grown-start, grown-operands}
+use Rattle.cycle_history.specs.Uses.{results_for, IsUseOf}
+use Rattle.cycle_history.proofs.Change.{Kept, grown-word, grown-start, grown-operands}
 use Rattle.cycle_history.proofs.Told.{LiveLife, live-word, whole-at}
 use Rattle.cycle_history.proofs.Results.{Cycle, grow, results-start, result_on, results-on, names, HasNoResult, unfinished-none, ResultLife, each-latest, results-stay}
 use Rattle.cycle_history.proofs.Words.{HasWord}

@@ -1,25 +1,24 @@
 -- The uses of the instructions in flight, behind the answer of a cycle.
-use Rattle.std.proofs.Common.{◌≡◌, ◌≢◌, ◌+◌, ◌==◌, ◌&&◌, ◌++◌, not, if◌then◌else◌, ℕ, Bool, true, false, Option, Some, None, IfSome, List, [], ◌∷◌, map, filter, length, refl, sym, ap, ◌∙◌, subst, append-nil}
-use Rattle.std.specs.Prelude.{is_some, is_none}
+use Rattle.std.proofs.Common.{◌≡◌, ◌≢◌, ◌&&◌, ◌++◌, not, if◌then◌else◌, ℕ, Bool, true, false, Option, Some, None, IfSome, List, [], ◌∷◌, length, refl, sym, ap, ◌∙◌, subst, append-nil}
+use Rattle.std.specs.Prelude.{is_some}
 use Rattle.std.specs.Option.{option_map_or}
 use Rattle.std.specs.List.{filter_map, cons_option}
 use Rattle.std.proofs.lemmas.List.Elements.{filter_map-append}
-use Rattle.std.proofs.lemmas.Bool.{eqb-true, eq-eqb, ne_eqb}
+use Rattle.std.proofs.lemmas.Bool.{eq-eqb, ne_eqb}
 use Rattle.xif_base.specs.declared.params.Key.{Key}
 use Rattle.xif_signals.specs.declared.bus.Bus.{Bus}
-use Rattle.xif_session.specs.declared.fact.Response.{Response}
 use Rattle.xif_session.specs.Facts.{same_key, issue_key, is_issued, issue_waits, response_on, is_accepted as is_response_accepted}
 use Rattle.xif_session.specs.Uses.{last_bus}
-use Rattle.xif_session.proofs.Options.{key_is, key_same}
+use Rattle.xif_session.proofs.Options.{key_same}
 use Rattle.cycle_spec.specs.declared.choices.Choices.{Choices}
 use Rattle.cycle_spec.specs.declared.entry.Entry.{Entry}
-use Rattle.cycle_spec.specs.Flight.{is_unknown, is_open, has_seq, with_response}
+use Rattle.cycle_spec.specs.Flight.{is_open, with_response}
 use Rattle.cycle_lists.specs.Lists.{Each, Pairs, FirstAt}
 use Rattle.cycle_lists.specs.Order.{Before}
-use Rattle.cycle_lists.proofs.Tests.{and-left, and-right, not-in, not-both, no-some, some-is}
-use Rattle.cycle_lists.proofs.Every.{each, Each-from, Each-both, Each-append, Each-front, Each-back, Each-here, Pairs-older, Pairs-younger}
+use Rattle.cycle_lists.proofs.Tests.{and-left, and-right, not-in, not-both, no-some}
+use Rattle.cycle_lists.proofs.Every.{each, Each-from, Each-both, Each-append, Each-front, Pairs-older, Pairs-younger}
 use Rattle.cycle_paired.specs.Paired.{IsEntry, Behind}
-use Rattle.cycle_paired.proofs.Facts.{accepted-some, none-refused, open-none, open-unknown, some-closed, other-numbers}
+use Rattle.cycle_paired.proofs.Facts.{accepted-some, none-refused, open-none, open-unknown, other-numbers}
 use Rattle.engine_history.specs.Lives.{Life, Answer, new_life, is_accepted, is_killed, latest, start_of, goes_on, starts, lives_of, lives_with, change_if, accepted_in, answer_on}
 use Rattle.engine_history.proofs.Keep.{HeadWaits, head_with, head_start}
 use Rattle.cycle_history.proofs.Change.{one, newly, grown-answer, with_answer}
@@ -197,9 +196,10 @@ module _ (session : List Bus) (b : Bus) (ch : Choices) (offers : Offers ch b) wh
       let u = open-unknown p f.passes in
       let unknown = λ (e : Entry) (i : IsEntry e) (a : is_response_accepted e.response ≡ true). i.answered (accepted-some e.response a) in
       let older1 = Each-both (λ x. Before x p) IsEntry (λ e. is_response_accepted e.response ≡ true → e.id ≡ p.id → ⊥) f.older (λ e k i a q. k.apart (unknown e i a) u q) (Pairs-older Before f.older p f.younger b') (Each-front IsEntry f.older (p ∷ f.younger) ok') in
-      let younger1 = Each-from (Behind p) (λ e. is_response_accepted e.response ≡ false) f.younger (λ e k. none-refused e.response (no-some e.response (λ h. not-both (is_open p) (k.answered h) f.passes))) (Pairs-younger Behind f.older p f.younger h') in
-      (Each-both (λ e. e.seq ≢ p.seq) (λ e. is_response_accepted e.response ≡ true → e.id ≡ p.id → ⊥) (Apart p) f.older (λ e s i. record { seq = s; id = i }) n.0 older1,
-       Each-both (λ e. e.seq ≢ p.seq) (λ e. is_response_accepted e.response ≡ false) (λ e. Apart p e × (is_response_accepted e.response ≡ false)) f.younger (λ e s i. (record { seq = s; id = λ a. absurd (not-both (is_response_accepted e.response) i a) }, i)) n.1 younger1)
+      let younger1 = Each-from (Behind p) (λ e. is_response_accepted e.response ≡ false) f.younger (λ e k. none-refused e.response (no-some e.response (λ h. not-both (is_open p) (k.answered h) f.passes))) (Pairs-younger Behind f.older p f.younger h') in (
+        Each-both (λ e. e.seq ≢ p.seq) (λ e. is_response_accepted e.response ≡ true → e.id ≡ p.id → ⊥) (Apart p) f.older (λ e s i. record { seq = s; id = i }) n.0 older1,
+        Each-both (λ e. e.seq ≢ p.seq) (λ e. is_response_accepted e.response ≡ false) (λ e. Apart p e × (is_response_accepted e.response ≡ false)) f.younger (λ e s i. (record { seq = s; id = λ a. absurd (not-both (is_response_accepted e.response) i a) }, i)) n.1 younger1,
+      )
 
   pub entered : (fl : List Entry) → IfSome ch.offer (FirstAt is_open fl) → Pairs Before fl → Pairs Behind fl → Each IsEntry fl
       → filter_map (λ e. life_at (lives_with session b) (first_change ch b e)) fl ≡ flying (lives_of session) fl ++ newly (grow session b) (lives_with session b)

@@ -1,10 +1,9 @@
 -- The uses of the instructions in flight, and the states along these.
-use Rattle.std.proofs.Common.{◌≡◌, ◌&&◌, ◌++◌, not, if◌then◌else◌, ℕ, Bool, true, false, Option, Some, None, IfSome, List, [], ◌∷◌, map, filter, take, drop, reverse, refl, sym, ap, ap₂, ◌∙◌, subst, append-nil, append_assoc}
+use Rattle.std.proofs.Common.{◌≡◌, ◌&&◌, ◌++◌, not, if◌then◌else◌, ℕ, Bool, true, false, Option, Some, None, IfSome, List, [], ◌∷◌, map, filter, take, reverse, refl, sym, ap, ap₂, ◌∙◌, subst, append-nil}
 use Rattle.std.specs.Prelude.{⊤}
 use Rattle.std.specs.Option.{option_map}
 use Rattle.std.specs.List.{filter_map, cons_option}
 use Rattle.std.proofs.lemmas.List.{reverse-append}
-use Rattle.std.proofs.lemmas.List.Elements.{filter_map-append}
 use Rattle.xif_session.specs.Facts.{is_accepted as is_response_accepted}
 use Rattle.inorder_machine.specs.Machine.{Extension, State}
 use Rattle.cycle_spec.specs.declared.entry.Entry.{Entry}

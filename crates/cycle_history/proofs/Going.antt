@@ -1,14 +1,13 @@
 -- A cycle of core and engine keeps what holds of the history.
-use Rattle.std.proofs.Common.{◌≡◌, ◌≢◌, ◌&&◌, ◌++◌, not, if◌then◌else◌, ℕ, suc, Bool, true, false, Option, Some, None, IfSome, List, [], ◌∷◌, map, filter, drop, length, refl, sym, ap, ◌∙◌, subst}
+use Rattle.std.proofs.Common.{◌≡◌, ◌++◌, if◌then◌else◌, ℕ, suc, Bool, true, false, Option, Some, None, IfSome, List, [], ◌∷◌, map, drop, length, refl, sym, ap, ◌∙◌, subst}
 use Rattle.std.specs.Prelude.{is_some, IsSome}
 use Rattle.std.specs.Option.{option_map, option_and_then}
 use Rattle.std.specs.List.{cons_option}
 use Rattle.xif_base.specs.declared.params.Key.{Key}
-use Rattle.xif_base.specs.Params.{IsInRange}
 use Rattle.xif_image.specs.Region.{word_at}
 use Rattle.xif_signals.specs.declared.bus.Bus.{Bus}
 use Rattle.cycle_paired.proofs.Same.{settled-is}
-use Rattle.xif_session.specs.Facts.{past_of, issue_key, is_issued, is_given, is_taken, response_on, is_accepted as is_response_accepted}
+use Rattle.xif_session.specs.Facts.{past_of, is_issued, is_given, is_taken, response_on, is_accepted as is_response_accepted}
 use Rattle.xif_session.specs.Rules.{HoldsI1}
 use Rattle.inorder_machine.specs.declared.line.Retire.{Retire}
 use Rattle.inorder_machine.specs.declared.line.Stepped.TheVariants.{Retired}
@@ -16,19 +15,17 @@ use Rattle.inorder_machine.specs.Machine.{Extension, State, next_step, state_aft
 use Rattle.inorder_machine.specs.After.{after, next_state, state_if_retired}
 use Rattle.cycle_spec.specs.declared.choices.Choices.{Choices}
 use Rattle.cycle_spec.specs.declared.entry.Entry.{Entry}
-use Rattle.cycle_spec.specs.declared.entry.EntryKind.{EntryKind}
 use Rattle.cycle_spec.specs.declared.use_of.Use.{Use}
-use Rattle.cycle_spec.specs.Flight.{is_unknown, is_unknown_kind, kind_at, free_id}
-use Rattle.cycle_spec.specs.State.{Core}
+use Rattle.cycle_spec.specs.Flight.{is_unknown, is_unknown_kind, kind_at}
 use Rattle.cycle_spec.specs.Choices.{choices}
 use Rattle.cycle_spec.specs.Core.{line_of, id_in, word_or_zero, retire_step, with_dispatch, settled_entries, dispatch_of, next_entry}
 use Rattle.cycle_spec.specs.Cycle.{Machines, hart_if, bus_at, core_bus_at, cycle}
 use Rattle.cycle_lists.specs.Lists.{Each}
-use Rattle.cycle_lists.proofs.Tests.{not-both, same-some, true-or, false-or}
-use Rattle.cycle_lists.proofs.Every.{each, Each-from, Each-both, Each-map, Each-at, Each-front, Each-append, Each-drop, Each-filter, Each-passed}
+use Rattle.cycle_lists.proofs.Tests.{not-both, same-some, false-or}
+use Rattle.cycle_lists.proofs.Every.{Each-both, Each-map, Each-at, Each-front, Each-append, Each-drop, Each-filter, Each-passed}
 use Rattle.cycle_paired.specs.Paired.{is_live, live_entries, IsEntry, Paired}
 use Rattle.cycle_paired.proofs.Facts.{done-dead, live-some, accepted-some, none-refused}
-use Rattle.cycle_paired.proofs.Choosing.{Sound, sound}
+use Rattle.cycle_paired.proofs.Choosing.{sound}
 use Rattle.cycle_paired.proofs.Cycling.{facts_of}
 use Rattle.cycle_paired.proofs.Closing.{cycle-paired}
 use Rattle.ahead_spec.specs.Walk.{Item, entries, outcome, stepped, IsPath, Walked}
@@ -37,24 +34,22 @@ use Rattle.ahead_spec.specs.Invariant.{Agrees, RunsAhead}
 use Rattle.ahead_laws.proofs.Retiring.{next-is}
 use Rattle.cycle_events.specs.Shown.{Left, left_by, Shows, Shown, shown, Tied, extension_of}
 use Rattle.cycle_events.specs.Shown as events
-use Rattle.cycle_events.proofs.Chosen.{kept, RetiresAt, IsChosen}
+use Rattle.cycle_events.proofs.Chosen.{RetiresAt}
 use Rattle.cycle_events.proofs.Choosing.{chosen}
 use Rattle.cycle_events.proofs.Settling.{all-go}
 use Rattle.engine_history.specs.Lives.{lives_of}
-use Rattle.engine_history.specs.Told.{latest_uses, whole_uses}
-use Rattle.engine_history.proofs.Units.{AllAnswers}
 use Rattle.engine_history.proofs.Ordered.{IsBoth}
-use Rattle.cycle_history.specs.Words.{UnitWord, word_in, next_word}
+use Rattle.cycle_history.specs.Words.{next_word}
 use Rattle.cycle_history.proofs.Told.{LiveLife, all-live}
 use Rattle.cycle_history.proofs.Results.{Cycle, cycle-grown, owned-on}
 use Rattle.cycle_history.proofs.Words.{words-on}
-use Rattle.cycle_history.proofs.Ends.{Serves, Served}
+use Rattle.cycle_history.proofs.Ends.{Served}
 use Rattle.cycle_history.proofs.Flying.{behind, behind-same, Walk, walk-items}
-use Rattle.cycle_history.proofs.Steps.{first_change, whole_change, cutting, settled-map, whole-id, whole-response, keeps-place, done-stays}
+use Rattle.cycle_history.proofs.Steps.{whole_change, cutting, settled-map, whole-id, whole-response, keeps-place, done-stays}
 use Rattle.cycle_history.proofs.Entering.{Seat, Old, New, Offers}
-use Rattle.cycle_history.proofs.Cycling.{Parted, parted-way, Known, all-known}
+use Rattle.cycle_history.proofs.Cycling.{parted-way, Known, all-known}
 use Rattle.cycle_history.proofs.Listing.{lists-after}
-use Rattle.cycle_history.proofs.Past.{Done, Lists, Hist, word-unknown, word-other, Oldest, lists-retired, lists-dispatched}
+use Rattle.cycle_history.proofs.Past.{Lists, Hist, word-unknown, word-other, Oldest, lists-retired, lists-dispatched}
 
 -- ---- what the engine has for an entry is what the in-order machine has
 

@@ -1,24 +1,22 @@
 -- The uses of the instructions that stay aren't killed, and those of the ones that go are.
-use Rattle.std.proofs.Common.{◌≡◌, ◌≢◌, ◌<◌, ◌+◌, ◌==◌, ◌&&◌, ◌++◌, not, if◌then◌else◌, ℕ, Bool, true, false, Option, Some, None, IfSome, List, [], ◌∷◌, map, filter, length, refl, sym, ap, ◌∙◌, subst, arith, append-nil}
+use Rattle.std.proofs.Common.{◌≡◌, ◌<◌, ◌==◌, ◌&&◌, ◌++◌, not, if◌then◌else◌, ℕ, Bool, true, false, Option, Some, None, IfSome, List, [], ◌∷◌, filter, length, refl, sym, ap, ◌∙◌, arith, append-nil}
 use Rattle.std.specs.Prelude.{is_some, ⊤}
 use Rattle.std.specs.Option.{option_map, option_map_or}
 use Rattle.std.specs.List.{filter_map}
 use Rattle.std.proofs.lemmas.List.Elements.{filter_map-append}
-use Rattle.std.proofs.lemmas.Bool.{eqb-true, eq-eqb}
+use Rattle.std.proofs.lemmas.Bool.{eqb-true}
 use Rattle.xif_base.specs.declared.params.Key.{Key}
 use Rattle.xif_base.specs.declared.params.Params.{Params}
 use Rattle.coproc_config.specs.Set.{UnitTable}
-use Rattle.inorder_machine.specs.Machine.{Extension, State}
+use Rattle.inorder_machine.specs.Machine.{Extension}
 use Rattle.xif_signals.specs.declared.bus.Bus.{Bus}
-use Rattle.xif_session.specs.Facts.{issue_key, result_key, is_taken, is_accepted as is_response_accepted}
+use Rattle.xif_session.specs.Facts.{issue_key, result_key, is_taken}
 use Rattle.xif_session.specs.Uses.{last_bus}
 use Rattle.cycle_spec.specs.declared.entry.Entry.{Entry}
-use Rattle.cycle_spec.specs.declared.use_of.Use.{Use}
-use Rattle.cycle_spec.specs.Flight.{is_unknown, is_open}
 use Rattle.cycle_spec.specs.State.{Engine}
 use Rattle.cycle_spec.specs.Cycle.{Machines}
-use Rattle.cycle_lists.specs.Lists.{Each, Pairs}
-use Rattle.cycle_lists.proofs.Tests.{and-left, and-right, and-both, not-both, not-in, same-some, some-at}
+use Rattle.cycle_lists.specs.Lists.{Each}
+use Rattle.cycle_lists.proofs.Tests.{and-left, and-right, and-both, not-both, same-some}
 use Rattle.cycle_lists.proofs.Every.{each, Each-from, Each-at}
 use Rattle.cycle_lists.proofs.Filters.{filter-append, filter-all, filter-none}
 use Rattle.cycle_paired.specs.Paired.{is_live, live_entries, is_live_use, IsEntry, IsUse, Paired}
@@ -33,12 +31,11 @@ use Rattle.engine_history.proofs.Ready.{ready_is}
 use Rattle.engine_history.proofs.Cycle.{latest_below}
 use Rattle.engine_history.proofs.Offered.{EachAt}
 use Rattle.engine_history.proofs.Units.{IsAnswer, AllAnswers}
-use Rattle.cycle_history.specs.Words.{UnitWord}
-use Rattle.cycle_history.specs.Uses.{IsUseOf, is_kept}
-use Rattle.cycle_history.proofs.Change.{Kept, latest-grown}
-use Rattle.cycle_history.proofs.Told.{LiveLife, live-killed, live-released, no-live}
-use Rattle.cycle_history.proofs.Results.{Cycle, grow, lives-after, rising-with, names, finish-other, ResultLife, result-life, each-latest, kept-stays, ready-released}
-use Rattle.cycle_history.proofs.Entering.{Head, Seat, Old, New}
+use Rattle.cycle_history.specs.Uses.{is_kept}
+use Rattle.cycle_history.proofs.Change.{latest-grown}
+use Rattle.cycle_history.proofs.Told.{LiveLife, live-released, no-live}
+use Rattle.cycle_history.proofs.Results.{Cycle, grow, lives-after, names, finish-other, ResultLife, result-life, each-latest, ready-released}
+use Rattle.cycle_history.proofs.Entering.{Seat, Old, New}
 use Rattle.cycle_history.proofs.Flying.{life_at}
 
 -- ---- the only use with a start

@@ -1,5 +1,5 @@
 -- The lists of uses and words, over a cycle.
-use Rattle.std.proofs.Common.{◌≡◌, ◌&&◌, ◌++◌, not, if◌then◌else◌, ℕ, Bool, true, false, Option, Some, None, IfSome, List, [], ◌∷◌, map, filter, length, reverse, refl, sym, ap, ◌∙◌, subst, append_assoc}
+use Rattle.std.proofs.Common.{◌≡◌, ◌++◌, not, if◌then◌else◌, ℕ, Bool, true, false, Option, Some, None, IfSome, List, [], ◌∷◌, map, filter, length, reverse, refl, sym, ap, ◌∙◌, subst, append_assoc}
 use Rattle.std.specs.Prelude.{is_some}
 use Rattle.std.specs.Option.{option_map, option_map_or}
 use Rattle.std.specs.List.{filter_map}
@@ -22,7 +22,7 @@ use Rattle.engine_history.specs.Lives.{Life, Answer, is_accepted, is_killed, is_
 use Rattle.engine_history.specs.Told.{latest_uses, whole_uses}
 use Rattle.engine_history.proofs.Units.{AllAnswers}
 use Rattle.cycle_history.specs.Words.{UnitWord, unit_words}
-use Rattle.cycle_history.specs.Uses.{IsUseOf, AreUsesOf, is_kept}
+use Rattle.cycle_history.specs.Uses.{AreUsesOf, is_kept}
 use Rattle.cycle_history.proofs.Change.{Kept, newly, latest-grown}
 use Rattle.cycle_history.proofs.Told.{LiveLife, live-killed, at-each}
 use Rattle.cycle_history.proofs.Results.{Cycle, grow, lives-after, cycle-kept, kept-stays}
@@ -33,7 +33,7 @@ use Rattle.cycle_history.proofs.Steps.{first_change, whole_change, first-id, who
 use Rattle.cycle_history.proofs.Entering.{Seat, Old, New, Offers, entered}
 use Rattle.cycle_history.proofs.Leaving.{KeptLife, kept-unkilled, after-latest, gone-killed, parted}
 use Rattle.cycle_history.proofs.Cycling.{Parted, Known, all-known, done-next, walk-front, walk-forget, each-unreversed, without, newly-accepted, counted-after}
-use Rattle.cycle_history.proofs.Past.{DoneUse, Done, Lists}
+use Rattle.cycle_history.proofs.Past.{Done, Lists}
 
 -- the uses of the words that retired stay theirs
 uses-on : (x : Extension) (session : List Bus) (b : Bus) (e : Rattle.cycle_spec.specs.State.Engine) → Cycle x.params x.set session b e → (ls : List Life) (ws : List UnitWord) → Each (λ l. is_kept l ≡ true) ls → Each (λ l. Kept l (grow session b l)) ls → AreUsesOf x session ls ws → AreUsesOf x (b ∷ session) (map (grow session b) ls) ws

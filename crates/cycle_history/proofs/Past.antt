@@ -1,7 +1,7 @@
 -- What holds of the history between two cycles, and how it goes over a retirement and a dispatch.
-use Rattle.std.proofs.Common.{◌≡◌, ◌&&◌, ◌++◌, not, if◌then◌else◌, ℕ, suc, Bool, true, false, Option, Some, None, IfSome, List, [], ◌∷◌, map, filter, length, reverse, refl, sym, ap, ap₂, ◌∙◌, subst, append-nil, append_assoc}
-use Rattle.std.specs.Prelude.{is_none, ⊤}
-use Rattle.std.specs.List.{filter_map, cons_option}
+use Rattle.std.proofs.Common.{◌≡◌, ◌++◌, if◌then◌else◌, ℕ, suc, Bool, true, false, Option, Some, None, IfSome, List, [], ◌∷◌, filter, reverse, refl, sym, ap, ◌∙◌, subst, append-nil, append_assoc}
+use Rattle.std.specs.Prelude.{is_none}
+use Rattle.std.specs.List.{cons_option}
 use Rattle.std.proofs.lemmas.List.Elements.{filter_map-append}
 use Rattle.rv32_table.specs.declared.instr.Instr.{Instr}
 use Rattle.rv32_table.specs.Instr.{decoded}
@@ -11,12 +11,11 @@ use Rattle.inorder_machine.specs.Machine.{Extension, State}
 use Rattle.cycle_spec.specs.declared.entry.Entry.{Entry}
 use Rattle.cycle_spec.specs.declared.entry.EntryKind.{EntryKind}
 use Rattle.cycle_spec.specs.Flight.{is_unknown_kind, kind_at, kind_by}
-use Rattle.cycle_spec.specs.Core.{word_or_zero, with_dispatch, retire_step}
-use Rattle.cycle_spec.specs.Cycle.{Machines}
+use Rattle.cycle_spec.specs.Core.{word_or_zero, with_dispatch}
 use Rattle.cycle_lists.specs.Lists.{Each}
 use Rattle.cycle_lists.proofs.Tests.{not-both}
 use Rattle.engine_history.specs.Lives.{Life, latest, lives_of}
-use Rattle.cycle_history.specs.Words.{UnitWord, word_in, next_word, unit_words}
+use Rattle.cycle_history.specs.Words.{word_in, next_word, unit_words}
 use Rattle.cycle_history.specs.Uses.{IsUseOf, AreUsesOf, is_kept, results_of}
 use Rattle.cycle_history.proofs.Results.{Owned}
 use Rattle.cycle_history.proofs.Words.{Words}

@@ -1,23 +1,23 @@
 -- The result handshakes of a session: each is for a released use that had none.
-use Rattle.std.proofs.Common.{◌≡◌, ◌<◌, ◌+◌, ◌==◌, ◌&&◌, ◌||◌, ◌++◌, not, if◌then◌else◌, ℕ, Bool, true, false, Option, Some, None, IfSome, List, [], ◌∷◌, map, filter, find, length, refl, sym, ap, ◌∙◌, subst, arith}
-use Rattle.std.specs.Prelude.{is_some, is_none}
+use Rattle.std.proofs.Common.{◌≡◌, ◌<◌, ◌+◌, ◌==◌, ◌&&◌, ◌||◌, not, if◌then◌else◌, ℕ, Bool, true, false, Option, Some, None, IfSome, List, [], ◌∷◌, map, filter, length, refl, sym, ap, ◌∙◌, subst, arith}
+use Rattle.std.specs.Prelude.{is_some}
 use Rattle.std.specs.Option.{option_map, option_map_or}
 use Rattle.std.specs.List.{list_any}
-use Rattle.std.proofs.lemmas.Bool.{eqb-true, eq-eqb, ne_eqb}
+use Rattle.std.proofs.lemmas.Bool.{eq-eqb, ne_eqb}
 use Rattle.std.proofs.lemmas.Bool.Decides.{nat_tests}
 use Rattle.xif_base.specs.declared.params.Key.{Key}
 use Rattle.xif_base.specs.declared.params.Params.{Params}
 use Rattle.coproc_config.specs.Set.{UnitTable}
 use Rattle.xif_signals.specs.declared.bus.Bus.{Bus}
 use Rattle.xif_signals.specs.declared.bus.CopOut.{CopOut}
-use Rattle.xif_session.specs.Facts.{issue_key, register_key, result_key, is_taken}
+use Rattle.xif_session.specs.Facts.{issue_key, result_key, is_taken}
 use Rattle.xif_session.specs.Uses.{last_bus}
 use Rattle.cycle_spec.specs.declared.use_of.Use.{Use}
 use Rattle.cycle_spec.specs.Engine as spec
 use Rattle.cycle_spec.specs.State.{Engine}
 use Rattle.cycle_lists.specs.Lists.{Each}
 use Rattle.cycle_lists.proofs.Tests.{and-left, and-right, and-both, not-both, or-left, or-right}
-use Rattle.cycle_lists.proofs.Every.{Each-from, Each-at, Each-map, each}
+use Rattle.cycle_lists.proofs.Every.{Each-from, Each-at, Each-map}
 use Rattle.cycle_lists.proofs.Places.{first-at}
 use Rattle.engine_history.specs.Lives.{Life, Answer, Verdict, new_life, is_of, is_accepted, is_killed, is_released, latest, start_of, starts, with_start, lives_of, lives_with, changed}
 use Rattle.engine_history.specs.Channels.{is_for}
@@ -26,7 +26,7 @@ use Rattle.engine_history.specs.Told.{is_ready, ready_cycle}
 use Rattle.engine_history.proofs.Keep.{Rising, rising, rising_start, head_with}
 use Rattle.engine_history.proofs.Ready.{ready_is, complete_released}
 use Rattle.engine_history.proofs.Cycle.{latest_below, changed_grown}
-use Rattle.engine_history.proofs.Offered.{EachAt, Waits, WaitsAt, is_running, IsOffered, offered_is, offered_named}
+use Rattle.engine_history.proofs.Offered.{EachAt, WaitsAt, offered_is, offered_named}
 use Rattle.engine_history.proofs.Ordered.{IsOrderlyCycle, IsBoth}
 use Rattle.cycle_history.specs.Uses.{Result, results_of, is_result_of, results_for, is_kept, kept_uses}
 use Rattle.cycle_history.proofs.Change.{one, Judged, Stays, Comes, Kept, grown, grown-start, grown-verdict, grown-finish, grown-kept, changed-map, with_finish}
@@ -339,6 +339,8 @@ owned-on params set session b e c h = go (is_taken b) refl
     go : (t : Bool) → is_taken b ≡ t → Each (Owned (b ∷ session)) (if t then result_on session b ∷ results_of session else results_of session)
     go false q = older
     go true q =
-        let x = result-life params set session b e c q in
-        (on (result_on session b) (found-kept x.use'.key (lives_of session) x.life (result_on session b) x.latest_is (and-both (is_accepted x.life) (is_released x.life) x.accepted x.released)
-        (ap (is_for x.life.start) x.named ∙ eq-eqb x.life.start x.life.start refl)), older)
+        let x = result-life params set session b e c q in (
+          on (result_on session b) (found-kept x.use'.key (lives_of session) x.life (result_on session b) x.latest_is (and-both (is_accepted x.life) (is_released x.life) x.accepted x.released)
+              (ap (is_for x.life.start) x.named ∙ eq-eqb x.life.start x.life.start refl)),
+          older,
+        )

@@ -1,28 +1,23 @@
 -- The uses of a run, from its first cycle to its last.
-use Rattle.std.proofs.Common.{◌≡◌, ◌≢◌, ◌<◌, ◌&&◌, ◌||◌, ◌++◌, not, if◌then◌else◌, ℕ, zero, suc, Bool, true, false, Option, Some, None, IfSome, List, [], ◌∷◌, map, filter, length, reverse, refl, sym, ap, ◌∙◌, subst, append-nil, arith}
-use Rattle.std.specs.Prelude.{is_some, nat_lt}
+use Rattle.std.proofs.Common.{◌≡◌, ◌&&◌, not, ℕ, true, false, Some, None, IfSome, List, [], ◌∷◌, filter, length, refl, sym, ap, ◌∙◌, subst, append-nil}
+use Rattle.std.specs.Prelude.{is_some}
 use Rattle.std.specs.Option.{option_map}
-use Rattle.std.specs.List.{cons_option, list_any}
+use Rattle.std.specs.List.{cons_option}
 use Rattle.xif_base.specs.Params.{IsInRange}
 use Rattle.xif_base.specs.declared.params.Params.{Params}
 use Rattle.xif_signals.specs.declared.bus.Bus.{Bus}
 use Rattle.xif_signals.specs.declared.rule.Rule.TheVariants.{H1, I1, I2, G2}
 use Rattle.xif_signals.specs.declared.rule.Channel.TheVariants.{Issue}
-use Rattle.xif_session.specs.Facts.{Past, past_of, is_accepted as is_response_accepted, is_refused}
+use Rattle.xif_session.specs.Facts.{past_of, is_accepted as is_response_accepted, is_refused}
 use Rattle.xif_session.specs.Legal.{EachCycle}
-use Rattle.xif_session.specs.Rules.{HasHart, HoldsI2, HoldsG2}
 use Rattle.xif_session.specs.Uses.{last_bus}
 use Rattle.inorder_machine.specs.declared.line.Retire.{Retire}
 use Rattle.inorder_machine.specs.declared.stop.StopCause.{StopCause}
-use Rattle.inorder_machine.specs.Machine.{Extension, State}
+use Rattle.inorder_machine.specs.Machine.{State}
 use Rattle.inorder_machine.specs.After.{after}
 use Rattle.cycle_spec.specs.declared.choices.Choices.{Choices}
-use Rattle.cycle_spec.specs.declared.choices.Mode.{Mode}
-use Rattle.cycle_spec.specs.declared.choices.Mode.TheVariants.{Running, DrainBegins, Draining}
 use Rattle.cycle_spec.specs.declared.entry.Entry.{Entry}
-use Rattle.cycle_spec.specs.declared.log.CycleLog.{CycleLog}
 use Rattle.cycle_spec.specs.Flight.{is_open, is_stopping, is_safe, is_safe_kind}
-use Rattle.cycle_spec.specs.State.{Core}
 use Rattle.cycle_spec.specs.Choices.{stop_at, choices, choices_stopping}
 use Rattle.cycle_spec.specs.Core.{line_of}
 use Rattle.cycle_spec.specs.Cycle.{Machines, bus_at, cycle}
@@ -43,17 +38,16 @@ use Rattle.cycle_refines.specs.RefinesInOrder.{extension_in, first_state}
 use Rattle.trace_laws.specs.Sessions.{Session, HoldsBut, is_stable_halves}
 use Rattle.trace_laws.proofs.Sessions.{session_keeps, with_pairs}
 use Rattle.engine_history.specs.Lives.{Life, is_accepted, is_killed, is_released, lives_of}
-use Rattle.engine_history.specs.Runs.{HasRun, IsOrderly, engine_of, cpu_of, cop_of}
+use Rattle.engine_history.specs.Runs.{HasRun, IsOrderly}
 use Rattle.engine_history.proofs.Run.{run_cycle}
 use Rattle.engine_history.proofs.Orderly.{all_orderly, orderly_told}
 use Rattle.engine_history.proofs.Ordered.{IsBoth}
-use Rattle.cycle_history.specs.Uses.{AreUsesOf, is_kept, kept_uses, results_of, UsesAreThoseThatRetire}
+use Rattle.cycle_history.specs.Uses.{AreUsesOf, is_kept, kept_uses, UsesAreThoseThatRetire}
 use Rattle.cycle_history.specs.Words.{unit_words}
 use Rattle.cycle_history.proofs.Driven.{answers-driven}
-use Rattle.cycle_history.proofs.Results.{Cycle, Owned, cycle-grown, owned-on}
+use Rattle.cycle_history.proofs.Results.{Cycle, cycle-grown, owned-on}
 use Rattle.cycle_history.proofs.Words.{words-on}
 use Rattle.cycle_history.proofs.Flying.{is_counted, filter-within}
-use Rattle.cycle_history.proofs.Steps.{cutting}
 use Rattle.cycle_history.proofs.Leaving.{kept-unkilled}
 use Rattle.cycle_history.proofs.Cycling.{Parted}
 use Rattle.cycle_history.proofs.Listing.{lists-after}
@@ -128,9 +122,10 @@ unreleased-at m k cause h = go m.core.flight h k.entries k.behind
     go [] h ok p = tt
     go (e ∷ es) h ok p =
         let stops : is_stopping e ≡ true = ap is_some h in
-        let unsafe : is_safe e ≡ false = ap (λ t. not t && is_safe_kind e.kind e) stops in
-        (false-or e.released (λ r. let a = ok.0.released r in refused-not e.response (ok.0.refused (ok.0.answered (accepted-some e.response a)) stops) a),
-         Each-from (Behind e) Unreleased es (λ y b. false-or y.released (λ r. not-both (is_safe e) unsafe (b.safe r))) p.0)
+        let unsafe : is_safe e ≡ false = ap (λ t. not t && is_safe_kind e.kind e) stops in (
+          false-or e.released (λ r. let a = ok.0.released r in refused-not e.response (ok.0.refused (ok.0.answered (accepted-some e.response a)) stops) a),
+          Each-from (Behind e) Unreleased es (λ y b. false-or y.released (λ r. not-both (is_safe e) unsafe (b.safe r))) p.0,
+        )
 
 pub stops-there : (s : Setup) (m : Machines) (answer : ℕ → ℕ → ℕ) (session : List Bus) (retired : List Retire) (w : World) (cause : StopCause) (k : Paired 0 m) → IsInRange s.params → (choices m.core).stop ≡ Some cause → Session s 0 m session → HasRun s.params s.set s.script session m.engine
     → Shown (first_state s) 0 retired m w → extension_of m.engine ≡ extension_in s → (now : State) → after (extension_in s) (length retired) (first_state s) ≡ Some now → Hist (extension_in s) (first_state s) session (length retired) now m.core.flight
@@ -157,7 +152,7 @@ stops-there s m answer session retired w cause k range z x run sh same now arriv
     let now_is : s0.runs.now ≡ now = same-some (after xs (length retired) start) s0.runs.now now (ap (λ r. after xs (length r) start) (sym count) ∙ s0.runs.arrived) arrived in
     let h0 : Hist xs start session (length retired) s0.runs.now fl = subst (λ n. Hist xs start session (length retired) n fl) (sym now_is) hist in
     let lists = lists-after xs start session b m k c ch offer exec part (offers-of m) m' k' both.whole_is.uses_are both.kept_is.answers [] fl refl (unreleased-at m k cause st.oldest) tt (λ i h. tt) (length retired) s0.runs.now h0.words h0.lists
-        (all-serve xs start (left_by 0 retired m) fl m.engine.uses sh.at w s0) in
+    (all-serve xs start (left_by 0 retired m) fl m.engine.uses sh.at w s0) in
     let none : cons_option (option_map line_of ch.retire) retired ≡ retired = by (λ c. cons_option (option_map line_of c.retire) retired ≡ retired) refl in
     record {
       now = s0.runs.now;

@@ -1,13 +1,10 @@
 -- What the history tells of the instructions in flight that had their issue handshake.
 use Rattle.std.proofs.Common.{◌≡◌, ◌&&◌, ◌++◌, not, if◌then◌else◌, ℕ, Bool, true, false, Option, Some, None, List, [], ◌∷◌, refl, sym, ap, ◌∙◌, subst}
 use Rattle.std.specs.Prelude.{is_some, find, IfSome}
-use Rattle.std.specs.Option.{option_map, option_map_or}
+use Rattle.std.specs.Option.{option_map_or}
 use Rattle.xif_base.specs.declared.params.Key.{Key}
 use Rattle.xif_base.specs.declared.params.Params.{Params}
-use Rattle.coproc_config.specs.declared.accept.Hit.{Hit}
 use Rattle.coproc_config.specs.Set.{UnitTable}
-use Rattle.xif_session.specs.declared.fact.Decision.{Decision}
-use Rattle.xif_session.specs.declared.fact.Decision.TheVariants.{Undecided, Released, Killed}
 use Rattle.xif_session.specs.Facts as facts
 use Rattle.xif_session.specs.Facts.{same_key, verdict_of}
 use Rattle.cycle_spec.specs.declared.entry.Entry.{Entry}
@@ -15,17 +12,17 @@ use Rattle.cycle_spec.specs.declared.use_of.Use.{Use}
 use Rattle.cycle_spec.specs.Engine as spec
 use Rattle.cycle_spec.specs.Cycle.{Machines}
 use Rattle.cycle_lists.specs.Lists.{Each}
-use Rattle.cycle_lists.proofs.Tests.{and-left, not-both, some-is}
-use Rattle.cycle_lists.proofs.Every.{each, Each-at, Each-from}
+use Rattle.cycle_lists.proofs.Tests.{some-is}
+use Rattle.cycle_lists.proofs.Every.{Each-at}
 use Rattle.cycle_lists.proofs.Places.{last-found}
 use Rattle.cycle_paired.specs.Paired.{is_live, live_entries, is_live_use, decision_of, Alike, IsUse, Paired}
-use Rattle.cycle_paired.proofs.Facts.{accepted-answered, live_use-answered}
+use Rattle.cycle_paired.proofs.Facts.{accepted-answered}
 use Rattle.cycle_paired.proofs.Matching.{found}
 use Rattle.trace_laws.proofs.CoreRules.{each_live}
 use Rattle.engine_history.specs.Lives.{Life, Answer, Verdict, is_accepted, is_killed, is_released, latest}
-use Rattle.engine_history.specs.Told.{hit_told, decision_told, use_told, latest_uses, whole_use, whole_uses}
+use Rattle.engine_history.specs.Told.{hit_told, decision_told, latest_uses, whole_use, whole_uses}
 use Rattle.engine_history.proofs.Lists.{latest_is}
-use Rattle.engine_history.proofs.Units.{IsAnswer, AllAnswers}
+use Rattle.engine_history.proofs.Units.{IsAnswer}
 
 -- ---- a use that the engine keeps, and its life
 

@@ -1,15 +1,14 @@
 -- A whole run: cycles up to a stop, or up to a budget and then until nothing is in flight.
 use Rattle.std.proofs.Common.{◌≡◌, ◌≢◌, ◌<◌, ◌&&◌, ◌≤◌, ◌||◌, ◌++◌, not, if◌then◌else◌, ℕ, zero, suc, Bool, true, false, Option, Some, None, IfSome, List, [], ◌∷◌, map, take, replicate, length, reverse, refl, sym, ap, ◌∙◌, subst, arith}
 use Rattle.std.specs.Prelude.{is_some, nat_lt, slice_index_or}
-use Rattle.std.specs.Option.{option_map, option_or}
-use Rattle.std.specs.List.{filter_map, cons_option, list_any}
+use Rattle.std.specs.List.{filter_map, cons_option}
 use Rattle.std.proofs.lemmas.List.{reverse-append, length-reverse}
 use Rattle.std.proofs.lemmas.List.Elements.{filter_map-append}
 use Rattle.std.proofs.lemmas.Bool.Decides.{nat_tests}
 use Rattle.xif_base.specs.Params.{IsInRange}
 use Rattle.inorder_machine.specs.declared.line.Retire.{Retire}
 use Rattle.inorder_machine.specs.declared.stop.StopCause.{StopCause}
-use Rattle.inorder_machine.specs.Machine.{Extension, State}
+use Rattle.inorder_machine.specs.Machine.{State}
 use Rattle.inorder_machine.specs.After.{after}
 use Rattle.coproc_config.specs.State.{zeros}
 use Rattle.cycle_spec.specs.declared.choices.Choices.{Choices}
@@ -18,10 +17,9 @@ use Rattle.cycle_spec.specs.declared.choices.Mode.{Mode}
 use Rattle.cycle_spec.specs.declared.choices.Mode.TheVariants.{Running, DrainBegins, Draining}
 use Rattle.cycle_spec.specs.declared.entry.Entry.{Entry}
 use Rattle.cycle_spec.specs.declared.log.CycleLog.{CycleLog}
-use Rattle.cycle_spec.specs.Flight.{is_stopping}
 use Rattle.cycle_spec.specs.State.{Core}
 use Rattle.cycle_spec.specs.Choices.{stop_at, choices_by, choices_in, choices}
-use Rattle.cycle_spec.specs.Core.{line_of, mode_after, cut_step, drain_step, retire_step, with_dispatch, next_entry, dispatch_of}
+use Rattle.cycle_spec.specs.Core.{mode_after, cut_step, drain_step, retire_step, with_dispatch, next_entry, dispatch_of}
 use Rattle.cycle_spec.specs.Engine.{units_of}
 use Rattle.cycle_spec.specs.Cycle.{Machines, bus_at, cycle}
 use Rattle.cycle_spec.specs.Run.{Setup, Meaning, Progress, new_machines, start, next as next_progress, unless, cycles_until, is_stopped, is_empty, has_no_entry, drain_limit, with_drain, drained, progress_of, run_of}
@@ -29,14 +27,12 @@ use Rattle.cycle_paired.specs.Paired.{Paired}
 use Rattle.cycle_paired.proofs.Closing.{cycle-paired}
 use Rattle.cycle_paired.proofs.Always.{start-paired, drain-paired}
 use Rattle.ahead_spec.specs.World.{World, begun, run}
-use Rattle.cycle_events.specs.Becomes.{Becomes}
 use Rattle.cycle_events.specs.Shown.{Shown, extension_of, state_in}
 use Rattle.cycle_events.proofs.Cycled.{cycled}
 use Rattle.cycle_events.proofs.Stopping.{drain-runs, stop-says, goes-says}
 use Rattle.cycle_events.proofs.Between.{start-shown, drain-shown, cycle-params, cycle-extension}
 use Rattle.cycle_refines.specs.RefinesInOrder.{extension_in, first_state}
 use Rattle.trace_laws.specs.Sessions.{Session, Begun, Cycled, Drained}
-use Rattle.trace_laws.specs.Sessions.{HoldsBut, is_stable_halves}
 use Rattle.xif_signals.specs.declared.rule.Rule.TheVariants.{I1}
 use Rattle.engine_history.specs.Runs.{HasRun}
 use Rattle.engine_history.proofs.Run.{run_start, run_cycle, run_told}
@@ -47,7 +43,7 @@ use Rattle.cycle_history.proofs.Words.{words-none}
 use Rattle.cycle_history.proofs.Steps.{whole_change, cutting}
 use Rattle.cycle_history.proofs.Going.{Next, going, flight-after}
 use Rattle.cycle_history.proofs.Runs.{told-at-end, beside, both-after, stops-there}
-use Rattle.cycle_history.proofs.Past.{Lists, Hist}
+use Rattle.cycle_history.proofs.Past.{Hist}
 
 -- ---- what retired
 

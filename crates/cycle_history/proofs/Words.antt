@@ -1,12 +1,11 @@
 -- A use is answered for the word with which it started.
-use Rattle.std.proofs.Common.{◌≡◌, ◌&&◌, ◌==◌, ◌+◌, not, if◌then◌else◌, ℕ, Bool, true, false, Option, Some, None, IfSome, List, [], ◌∷◌, map, length, refl, sym, ap, ◌∙◌, subst}
+use Rattle.std.proofs.Common.{◌≡◌, ◌&&◌, ◌==◌, not, if◌then◌else◌, ℕ, Bool, true, false, Option, Some, None, IfSome, List, [], ◌∷◌, map, length, refl, sym, ap, ◌∙◌, subst}
 use Rattle.xif_signals.specs.declared.bus.Bus.{Bus}
-use Rattle.xif_session.specs.Facts.{Past, past_of, issue_key, is_issued, issue_waits, issue_continues, is_start}
-use Rattle.xif_session.specs.Legal.{EachCycle}
+use Rattle.xif_session.specs.Facts.{past_of, issue_key, is_issued, issue_waits, issue_continues}
 use Rattle.xif_session.specs.Rules.{HoldsI1}
 use Rattle.xif_session.specs.Uses.{last_bus}
 use Rattle.cycle_lists.specs.Lists.{Each}
-use Rattle.cycle_lists.proofs.Tests.{and-left, not-in}
+use Rattle.cycle_lists.proofs.Tests.{and-left}
 use Rattle.engine_history.specs.Lives.{Life, Answer, new_life, start_of, starts, with_start, answer_on, accepted_in, lives_of, lives_with}
 use Rattle.engine_history.proofs.Grown.{Old, Each2, Grown}
 use Rattle.engine_history.proofs.Session.{starts_are}
@@ -71,11 +70,12 @@ answer-word cycle number b o l h w = go (is_issued b) o w
 
 words-after : (cycle : ℕ) (b : Bus) (us ls : List Life) → (b.issue_valid ≡ true → HeadWord b.issue_instr ls) → Grown cycle ls (map (grown cycle b us) ls) → Each HasWord ls → Each HasWord (map (grown cycle b us) ls)
 words-after cycle b us [] v g h = tt
-words-after cycle b us (l ∷ ls) v g h =
-    (subst (λ o. IfSome o (λ (a : Answer). a.word ≡ (grown cycle b us l).word)) (sym (grown-answer cycle b us l))
-    (subst (λ n. IfSome (one (is_issued b) (start_of (issue_key b) us) (with_answer cycle (accepted_in us) b) l).answer (λ (a : Answer). a.word ≡ n)) (sym (grown-word cycle b us l))
-    (answer-word cycle (accepted_in us) b (start_of (issue_key b) us) l h.0 (λ i. v (and-left b.issue_valid b.issue_ready i)))),
-    olds-word cycle (grown cycle b us) ls (grown-word cycle b us) g.1 h.1)
+words-after cycle b us (l ∷ ls) v g h = (
+  subst (λ o. IfSome o (λ (a : Answer). a.word ≡ (grown cycle b us l).word)) (sym (grown-answer cycle b us l))
+      (subst (λ n. IfSome (one (is_issued b) (start_of (issue_key b) us) (with_answer cycle (accepted_in us) b) l).answer (λ (a : Answer). a.word ≡ n)) (sym (grown-word cycle b us l))
+      (answer-word cycle (accepted_in us) b (start_of (issue_key b) us) l h.0 (λ i. v (and-left b.issue_valid b.issue_ready i)))),
+  olds-word cycle (grown cycle b us) ls (grown-word cycle b us) g.1 h.1,
+)
 
 pub words-on : (session : List Bus) (b : Bus) → Words session → HoldsI1 (past_of session) b → Grown (length session) (lives_with session b) (map (grow session b) (lives_with session b)) → Words (b ∷ session)
 words-on session b w i g = record {
