@@ -14,3 +14,4 @@ pub mod Listing
 pub mod Going
 pub mod Runs
 pub mod Whole
+pub mod Examples

@@ -39,9 +39,10 @@ is_result_of l r = is_for l.start r.owner
 abbrev pub results_for : Life → List Bus → List Result
 results_for l session = filter (is_result_of l) (results_of session)
 
--- A use has one result handshake. It carries the writeback of the word, its rd field if the result
+-- A use has one result handshake. It carries the writeback of the word, its rd field unless nothing
 -- is written, and the result that the in-order machine has.
-pub record HasItsResult (x : Extension) (session : List Bus) (l : Life) (w : UnitWord) : Type 0 where
+pub record HasItsResult (x : Extension) (session : List Bus) (l : Life) (w : UnitWord)
+    : Type 0 where
   pub result : Result
   pub one : results_for l session ≡ result ∷ []
   pub we : result.bus.result_we ≡ writeback_of (word_hit x w.word)
@@ -58,7 +59,8 @@ pub record IsUseOf (x : Extension) (session : List Bus) (l : Life) (w : UnitWord
   pub answered : (a : Answer) → l.answer ≡ Some a → a.word ≡ w.word
   -- At its register handshake each half that the word reads has the operand that the in-order
   -- machine has. It has that handshake, if the word reads any.
-  pub operands : (o : Operands) → l.operands ≡ Some o → CarriesOperands x w.state w.word o.lanes
+  pub operands
+      : (o : Operands) → l.operands ≡ Some o → CarriesOperands x w.state w.word o.lanes
   pub given : l.operands ≡ None → halves_read x w.word ≡ 0
   pub result : HasItsResult x session l w
 
