@@ -12,6 +12,7 @@ pub mod Past
 pub mod Cycling
 pub mod Listing
 pub mod Going
+pub mod Retired
 pub mod Runs
 pub mod Whole
 pub mod Examples

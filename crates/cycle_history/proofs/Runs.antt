@@ -1,5 +1,5 @@
 -- The uses of a run, from its first cycle to its last.
-use Rattle.std.proofs.Common.{◌≡◌, ◌&&◌, not, ℕ, true, false, Some, None, IfSome, List, [], ◌∷◌, filter, length, refl, sym, ap, ◌∙◌, subst, append-nil}
+use Rattle.std.proofs.Common.{◌≡◌, ◌&&◌, not, ℕ, true, false, Some, None, IfSome, List, [], ◌∷◌, filter, length, map, reverse, refl, sym, ap, ◌∙◌, subst, append-nil}
 use Rattle.std.specs.Prelude.{is_some}
 use Rattle.std.specs.Option.{option_map}
 use Rattle.std.specs.List.{cons_option}
@@ -43,7 +43,7 @@ use Rattle.engine_history.proofs.Run.{run_cycle}
 use Rattle.engine_history.proofs.Orderly.{all_orderly, orderly_told}
 use Rattle.engine_history.proofs.Ordered.{IsBoth}
 use Rattle.cycle_history.specs.Uses.{AreUsesOf, is_kept, kept_uses, UsesAreThoseThatRetire}
-use Rattle.cycle_history.specs.Words.{unit_words}
+use Rattle.cycle_history.specs.Words.{unit_words, words_in}
 use Rattle.cycle_history.proofs.Driven.{answers-driven}
 use Rattle.cycle_history.proofs.Results.{Cycle, cycle-grown, owned-on}
 use Rattle.cycle_history.proofs.Words.{words-on}
@@ -56,14 +56,17 @@ use Rattle.cycle_history.proofs.Past.{Lists, Hist}
 
 -- ---- what a history says where nothing is in flight
 
-pub told-at-end : (s : Setup) (session : List Bus) (count : ℕ) (now : State) (e : _) → HasRun s.params s.set s.script session e → Hist (extension_in s) (first_state s) session count now [] → UsesAreThoseThatRetire s session count
-told-at-end s session count now e run h =
+pub told-at-end : (s : Setup) (session : List Bus) (retired : List Retire) (now : State) (e : _) → HasRun s.params s.set s.script session e → words_in retired ≡ reverse (map (λ w. w.word) (unit_words (extension_in s) (length retired) (first_state s)))
+    → Hist (extension_in s) (first_state s) session (length retired) now [] → UsesAreThoseThatRetire s session retired
+told-at-end s session retired now e run words h =
+    let count = length retired in
     let ls = lives_of session in
     let counted : filter is_counted ls ≡ h.lists.older = h.lists.split in
     let within : Each (λ l. is_kept l ≡ true → is_counted l ≡ true) ls = Rattle.cycle_lists.proofs.Every.each (λ l. is_kept l ≡ true → is_counted l ≡ true) ls kept-counted in
     let kept : kept_uses session ≡ h.lists.older = sym (filter-within is_kept is_counted ls within) ∙ ap (filter is_kept) counted ∙ filter-all is_kept h.lists.older h.lists.kept in
     record {
       answers = answers-driven s.params s.set s.script session run.driven;
+      words = words;
       uses = subst (λ us. AreUsesOf (extension_in s) session us (unit_words (extension_in s) count (first_state s))) (sym kept) h.lists.past;
       others = Each-from (λ l. is_counted l ≡ true → is_kept l ≡ true) (λ l. is_accepted l ≡ true → is_released l ≡ false → is_killed l ≡ true) ls other
           (Each-unfilter (λ l. is_kept l ≡ true) is_counted ls (subst (Each (λ l. is_kept l ≡ true)) (sym counted) h.lists.kept));

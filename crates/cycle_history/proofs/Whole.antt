@@ -32,6 +32,8 @@ use Rattle.cycle_events.proofs.Cycled.{cycled}
 use Rattle.cycle_events.proofs.Stopping.{drain-runs, stop-says, goes-says}
 use Rattle.cycle_events.proofs.Between.{start-shown, drain-shown, cycle-params, cycle-extension}
 use Rattle.cycle_refines.specs.RefinesInOrder.{extension_in, first_state}
+use Rattle.cycle_refines.proofs.Running.{run-refines}
+use Rattle.cycle_history.proofs.Retired.{retired-words}
 use Rattle.trace_laws.specs.Sessions.{Session, Begun, Cycled, Drained}
 use Rattle.xif_signals.specs.declared.rule.Rule.TheVariants.{I1}
 use Rattle.engine_history.specs.Runs.{HasRun}
@@ -299,15 +301,18 @@ ends-empty meaning s predictor range g = go s.window refl
         let lawful : IsLawful s = record { window = omega (arith, w); harts = omega (arith, range.num_harts) } in
         nothing p.machines.core.flight (either (is_stopped p.machines.core) (is_empty p.machines.core) (ap is_some g.unstopped) (drain-empty _ meaning s predictor lawful))
 
-pub run-uses : {P : Type 0} (meaning : Meaning P) (s : Setup) (predictor : P) → IsInRange s.params → UsesAreThoseThatRetire s (progress_of meaning s predictor).buses (length (run_of meaning s predictor).retired)
+pub run-uses : {P : Type 0} (meaning : Meaning P) (s : Setup) (predictor : P) → IsInRange s.params → UsesAreThoseThatRetire s (progress_of meaning s predictor).buses (run_of meaning s predictor).retired
 run-uses meaning s predictor range = by (comes meaning s predictor range)
   where
-    told : (now : State) → Hist (extension_in s) (first_state s) (progress_of meaning s predictor).buses (length (retired_in (progress_of meaning s predictor).logs)) now [] → UsesAreThoseThatRetire s (progress_of meaning s predictor).buses (length (run_of meaning s predictor).retired)
+    told : (now : State) → Hist (extension_in s) (first_state s) (progress_of meaning s predictor).buses (length (retired_in (progress_of meaning s predictor).logs)) now [] → UsesAreThoseThatRetire s (progress_of meaning s predictor).buses (run_of meaning s predictor).retired
     told now h =
         let p = progress_of meaning s predictor in
-        subst (UsesAreThoseThatRetire s p.buses) (sym (reverse-lines p.logs)) (told-at-end s p.buses (length (retired_in p.logs)) now p.machines.engine (run_told meaning s predictor) h)
+        let r = run_of meaning s predictor in
+        let refined = run-refines meaning s predictor range in
+        told-at-end s p.buses r.retired now p.machines.engine (run_told meaning s predictor) (retired-words (extension_in s) (first_state s) refined.now r.retired refined.arrived refined.retired)
+        (subst (λ n. Hist (extension_in s) (first_state s) p.buses n now []) (sym (reverse-lines p.logs)) h)
 
-    by : Comes s (progress_of meaning s predictor) → UsesAreThoseThatRetire s (progress_of meaning s predictor).buses (length (run_of meaning s predictor).retired)
+    by : Comes s (progress_of meaning s predictor) → UsesAreThoseThatRetire s (progress_of meaning s predictor).buses (run_of meaning s predictor).retired
     by (Going g) =
         let p = progress_of meaning s predictor in
         told g.now (subst (Hist (extension_in s) (first_state s) p.buses (length (retired_in p.logs)) g.now) (ends-empty meaning s predictor range g) g.hist)

@@ -1,11 +1,12 @@
 -- The uses of a run: what the buses carry for each, and which word of the in-order machine it is
 -- for. A use is one instruction that is offered under a key (CV-X-IF 1.0.0, "Identification").
 -- Buses and uses are listed the newest first; the history of the uses is that of `engine_history`.
-use Rattle.std.specs.Prelude.{◌≡◌, ◌==◌, ◌&&◌, ℕ, Bool, true, false, if◌then◌else◌, Option, Some, None, List, [], ◌∷◌, filter, ⊤}
+use Rattle.std.specs.Prelude.{◌≡◌, ◌==◌, ◌&&◌, ℕ, Bool, true, false, if◌then◌else◌, Option, Some, None, List, [], ◌∷◌, length, map, filter, reverse, ⊤}
 use Rattle.std.specs.List.{list_any}
 use Rattle.rv32_table.specs.Instr.{rd_field}
 use Rattle.xif_signals.specs.declared.bus.Bus.{Bus}
 use Rattle.xif_session.specs.Facts.{result_key, is_issued, is_taken, response_on}
+use Rattle.inorder_machine.specs.declared.line.Retire.{Retire}
 use Rattle.inorder_machine.specs.Machine.{Extension}
 use Rattle.cycle_spec.specs.Engine.{writeback_of}
 use Rattle.cycle_spec.specs.Run.{Setup}
@@ -14,7 +15,7 @@ use Rattle.cycle_refines.specs.RefinesInOrder.{extension_in, first_state}
 use Rattle.ahead_spec.specs.Operands.{word_hit, halves_read, response_of, CarriesOperands, unit_step}
 use Rattle.engine_history.specs.Lives.{Life, Answer, Operands, start_of, lives_of, lives_with, is_accepted, is_killed, is_released}
 use Rattle.engine_history.specs.Channels.{is_for}
-use Rattle.cycle_history.specs.Words.{UnitWord, unit_words}
+use Rattle.cycle_history.specs.Words.{UnitWord, unit_words, words_in}
 
 -- ---- result handshakes
 
@@ -80,23 +81,31 @@ is_kept l = is_accepted l && is_released l
 abbrev pub kept_uses : List Bus → List Life
 kept_uses session = filter is_kept (lives_of session)
 
--- What the uses of a run are, by its buses and by how many instructions retired.
-pub record UsesAreThoseThatRetire (s : Setup) (session : List Bus) (count : ℕ) : Type 0 where
+-- What the uses of a run are, by its buses and by its retired instructions, the oldest of these
+-- first.
+pub record UsesAreThoseThatRetire (s : Setup) (session : List Bus) (retired : List Retire)
+    : Type 0 where
   -- each issue handshake has the response that the tables of the units give for the word, on a
   -- wrong path too
   pub answers
       : Each (λ b. is_issued b ≡ true
       → response_on b ≡ response_of (word_hit (extension_in s) b.issue_instr)) session
-  -- the accepted and released uses, in the order of their starts, are those of the words that
-  -- retired, in the order of their retirement
+  -- the retired words that are no instruction of RV32IM are those that the in-order machine comes
+  -- to as it retires as many instructions
+  pub words
+      : words_in retired
+      ≡ reverse
+      (map (λ w. w.word) (unit_words (extension_in s) (length retired) (first_state s)))
+  -- the accepted and released uses, in the order of their starts, are those of these words, in the
+  -- order of their retirement
   pub uses
       : AreUsesOf (extension_in s) session (kept_uses session)
-      (unit_words (extension_in s) count (first_state s))
+      (unit_words (extension_in s) (length retired) (first_state s))
   -- each other accepted use is killed
   pub others
       : Each (λ l. is_accepted l ≡ true → is_released l ≡ false → is_killed l ≡ true)
       (lives_of session)
-  -- each result handshake is for one of them
+  -- each result handshake is for one of the accepted and released uses
   pub results
       : Each (λ r. list_any (λ l. is_result_of l r) (kept_uses session) ≡ true)
       (results_of session)

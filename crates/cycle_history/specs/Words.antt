@@ -1,7 +1,8 @@
 -- The words of the in-order machine that are no instruction of RV32IM: the units compute them.
-use Rattle.std.specs.Prelude.{ℕ, zero, suc, is_none, if◌then◌else◌, Option, Some, None, List, [], ◌∷◌, ◌++◌}
+use Rattle.std.specs.Prelude.{ℕ, zero, suc, is_none, if◌then◌else◌, Option, Some, None, List, [], ◌∷◌, ◌++◌, map, filter}
 use Rattle.rv32_table.specs.Instr.{decoded}
 use Rattle.xif_image.specs.Region.{word_at}
+use Rattle.inorder_machine.specs.declared.line.Retire.{Retire}
 use Rattle.inorder_machine.specs.Machine.{Extension, State}
 use Rattle.inorder_machine.specs.After.{after}
 
@@ -24,3 +25,7 @@ next_word (Some s) = word_in s (word_at s.memory s.pc)
 abbrev pub unit_words : Extension → (count : ℕ) → State → List UnitWord
 unit_words x zero s = []
 unit_words x (suc n) s = next_word (after x n s) ++ unit_words x n s
+
+-- the words of retired instructions that are no instruction of RV32IM
+abbrev pub words_in : List Retire → List ℕ
+words_in retired = map (λ l. l.word) (filter (λ l. is_none (decoded l.word)) retired)

@@ -1,5 +1,4 @@
 //! What the uses of every run are.
-ghost use Rattle.std.specs.Prelude.{length};
 ghost use Rattle.xif_base.specs.Params.{IsInRange};
 ghost use Rattle.cycle_spec.specs.Run.{Setup, Meaning, progress_of, run_of};
 ghost use Rattle.cycle_history.specs.Uses.{UsesAreThoseThatRetire};
@@ -10,5 +9,5 @@ ghost use Rattle.cycle_history.specs.Uses.{UsesAreThoseThatRetire};
 pub fn uses_law<P>()
     ensures { (meaning : Meaning P) (setup : Setup) (predictor : P) → IsInRange setup.params
         → UsesAreThoseThatRetire setup (progress_of meaning setup predictor).buses
-        (length (run_of meaning setup predictor).retired) }
+        (run_of meaning setup predictor).retired }
 {}
