@@ -95,9 +95,6 @@ module _ (x : Extension) (start : State) (session : List Bus) (b : Bus) (m : Mac
   results-known : Each (λ e. (p : Entry) → result_entry ch b m.core.flight ≡ Some p → e.seq ≡ p.seq → b.result_id ≡ e.id) m.core.flight
   results-known = go (result_entry ch b m.core.flight) refl
     where
-      T : Entry → Type 0
-      T e = (p : Entry) → result_entry ch b m.core.flight ≡ Some p → e.seq ≡ p.seq → b.result_id ≡ e.id
-
       go : (o : Option Entry) → result_entry ch b m.core.flight ≡ o → Each (λ e. (p : Entry) → result_entry ch b m.core.flight ≡ Some p → e.seq ≡ p.seq → b.result_id ≡ e.id) m.core.flight
       go None q = each (λ e. (p : Entry) → result_entry ch b m.core.flight ≡ Some p → e.seq ≡ p.seq → b.result_id ≡ e.id) m.core.flight (λ e p r s. absurd (none-some (result_entry ch b m.core.flight) p q r))
       go (Some z) q =

@@ -205,9 +205,6 @@ module _ (session : List Bus) (b : Bus) (ch : Choices) (offers : Offers ch b) wh
       → filter_map (λ e. life_at (lives_with session b) (first_change ch b e)) fl ≡ flying (lives_of session) fl ++ newly (grow session b) (lives_with session b)
   entered fl f before behind ok = go ch.offer refl f
     where
-      h1 : Entry → Option Life
-      h1 e = life_at (lives_with session b) (first_change ch b e)
-
       go : (o : Option Entry) → ch.offer ≡ o → IfSome o (FirstAt is_open fl) → filter_map (λ e. life_at (lives_with session b) (first_change ch b e)) fl ≡ flying (lives_of session) fl ++ newly (grow session b) (lives_with session b)
       go None o f =
           filtered-same (λ e. life_at (lives_with session b) (first_change ch b e)) (life_at (lives_of session)) fl (each (λ e. life_at (lives_with session b) (first_change ch b e) ≡ life_at (lives_of session) e) fl (λ e. same-at e (response-none e o) (λ a. latest-none e o)))
@@ -232,9 +229,6 @@ module _ (session : List Bus) (b : Bus) (ch : Choices) (offers : Offers ch b) wh
   pub seats : (fl : List Entry) → IfSome ch.offer (FirstAt is_open fl) → Pairs Before fl → Pairs Behind fl → Each IsEntry fl → Each (λ e. is_response_accepted (first_change ch b e).response ≡ true → Seat session b e) fl
   seats fl f before behind ok = go ch.offer refl f
     where
-      T : Entry → Type 0
-      T e = is_response_accepted (first_change ch b e).response ≡ true → Seat session b e
-
       go : (o : Option Entry) → ch.offer ≡ o → IfSome o (FirstAt is_open fl) → Each (λ e. is_response_accepted (first_change ch b e).response ≡ true → Seat session b e) fl
       go None o f = each (λ e. is_response_accepted (first_change ch b e).response ≡ true → Seat session b e) fl (λ e t. Old (sym (ap is_response_accepted (response-none e o)) ∙ t) (latest-none e o))
       go (Some p) o f =

@@ -113,9 +113,6 @@ finished-kept params set session b e c =
 
 -- ---- the entry of a result
 
-abbrev key0 : ℕ → Key
-key0 id = record { hart = 0; id = id }
-
 -- the use whose result is offered is one of the core's
 pub result-key : (x : Extension) (session : List Bus) (b : Bus) (m : Machines) (k : Paired 0 m) (r : ResultLife x.params x.set session b m.engine) (id : ℕ) → b.result_id ≡ id → r.use'.key ≡ record { hart = 0; id = id }
 result-key x session b m k r id h =
@@ -174,9 +171,6 @@ pub gone-killed : (params : Params) (set : List UnitTable) (session : List Bus) 
     → Each (λ v. v.id ≡ e.id → ⊥) (live_entries m'.core.flight) → is_killed (grow session b l) ≡ true
 gone-killed params set session b m c m' k' us answers e l seat at a ok un live none = go (is_killed (grow session b l)) refl
   where
-    n : Life
-    n = grow session b l
-
     next : latest (record { hart = 0; id = e.id }) (lives_of (b ∷ session)) ≡ Some (grow session b l)
     next = after-latest session b (record { hart = 0; id = e.id }) l at
 

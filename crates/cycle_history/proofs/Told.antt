@@ -99,9 +99,6 @@ accepted-told params set (Some a) h = go a.response.accept h.accept
 
 -- ---- an entry that waits, and its life
 
-pub key0 : ℕ → Key
-key0 id = record { hart = 0; id = id }
-
 pub record LiveLife (params : Params) (set : List UnitTable) (ls : List Life) (us : List Use) (e : Entry) : Type 0 where
   pub life : Life
   pub older : List Life
@@ -154,13 +151,6 @@ live-released params set ls us e l = sym (released-told l.life.verdict) ∙ ap (
 
 pub live-word : (params : Params) (set : List UnitTable) (ls : List Life) (us : List Use) (e : Entry) (l : LiveLife params set ls us e) → l.life.word ≡ e.word
 live-word params set ls us e l = ap (λ (u : Use). u.word) (sym l.use_is) ∙ l.alike.word
-
-pub live-finish : (params : Params) (set : List UnitTable) (ls : List Life) (us : List Use) (e : Entry) (l : LiveLife params set ls us e) → l.life.finish ≡ None
-live-finish params set ls us e l = none l.life.finish (ap (λ (u : Use). u.finished) (sym l.use_is) ∙ l.unfinished)
-  where
-    none : (o : Option ℕ) → is_some o ≡ false → o ≡ None
-    none None h = refl
-    none (Some n) h = cc
 
 -- ---- a life that waits, and its entry
 
