@@ -9,7 +9,7 @@ use Rattle.xif_signals.specs.declared.bus.Bus.{Bus}
 use Rattle.xif_signals.specs.declared.rule.Rule.TheVariants.{H1, I1, I2, G2}
 use Rattle.xif_signals.specs.declared.rule.Channel.TheVariants.{Issue}
 use Rattle.xif_session.specs.Facts.{past_of, is_accepted as is_response_accepted, is_refused}
-use Rattle.xif_session.specs.Legal.{EachCycle}
+use Rattle.xif_session.specs.Legal.{EachCycle, HoldsAll}
 use Rattle.xif_session.specs.Uses.{last_bus}
 use Rattle.inorder_machine.specs.declared.line.Retire.{Retire}
 use Rattle.inorder_machine.specs.declared.stop.StopCause.{StopCause}
@@ -35,8 +35,8 @@ use Rattle.ahead_spec.specs.World.{World}
 use Rattle.cycle_events.specs.Shown.{left_by, Shows, Shown, extension_of}
 use Rattle.cycle_events.proofs.Stopping.{stopping}
 use Rattle.cycle_refines.specs.RefinesInOrder.{extension_in, first_state}
-use Rattle.trace_laws.specs.Sessions.{Session, HoldsBut, is_stable_halves}
-use Rattle.trace_laws.proofs.Sessions.{session_keeps, with_pairs}
+use Rattle.trace_laws.specs.Sessions.{Session}
+use Rattle.trace_laws.proofs.Sessions.{session_keeps}
 use Rattle.engine_history.specs.Lives.{Life, is_accepted, is_killed, is_released, lives_of}
 use Rattle.engine_history.specs.Runs.{HasRun, IsOrderly}
 use Rattle.engine_history.proofs.Run.{run_cycle}
@@ -81,19 +81,19 @@ told-at-end s session retired now e run words h =
 
 -- ---- a cycle beside its session
 
-orderly-in : (params : Params) (session : List Bus) → EachCycle (HoldsBut is_stable_halves params) session → IsOrderly params session
+orderly-in : (params : Params) (session : List Bus) → EachCycle (HoldsAll params) session → IsOrderly params session
 orderly-in params [] h = record { harts = tt; keys = tt; registers = tt }
 orderly-in params (b ∷ session) h =
     let r = orderly-in params session h.1 in
-    record { harts = (h.0 H1 refl Issue, r.harts); keys = (h.0 I2 refl, r.keys); registers = (h.0 G2 refl, r.registers) }
+    record { harts = (h.0 H1 Issue, r.harts); keys = (h.0 I2, r.keys); registers = (h.0 G2, r.registers) }
 
 pub record Beside (s : Setup) (m : Machines) (session : List Bus) : Type 0 where
   pub cycle_is : Cycle s.params s.set session (bus_at m 0) m.engine
-  pub rules : HoldsBut is_stable_halves s.params (past_of session) (bus_at m 0)
+  pub rules : HoldsAll s.params (past_of session) (bus_at m 0)
 
 pub beside : (s : Setup) (m : Machines) (session : List Bus) → IsInRange s.params → Session s 0 m session → HasRun s.params s.set s.script session m.engine → Beside s m session
 beside s m session range x run =
-    let keeps = session_keeps is_stable_halves s range (with_pairs s.params) 0 m session x in
+    let keeps = session_keeps s range 0 m session x in
     let o = orderly-in s.params (bus_at m 0 ∷ session) keeps in
     record {
       cycle_is = record {
@@ -108,7 +108,7 @@ beside s m session range x run =
 pub both-after : (s : Setup) (m : Machines) (answer : ℕ → ℕ → ℕ) (session : List Bus) → IsInRange s.params → Session s 0 m session → HasRun s.params s.set s.script session m.engine
     → IsBoth s.params s.set (length (bus_at m 0 ∷ session)) (bus_at m 0) (lives_of (bus_at m 0 ∷ session)) (cycle m 0 answer).engine
 both-after s m answer session range x run =
-    let o = orderly-in s.params (bus_at m 0 ∷ session) (session_keeps is_stable_halves s range (with_pairs s.params) 0 m session x) in
+    let o = orderly-in s.params (bus_at m 0 ∷ session) (session_keeps s range 0 m session x) in
     let r = run_cycle s.params s.set s.script session m 0 answer run in
     subst (IsBoth s.params s.set (length (bus_at m 0 ∷ session)) (bus_at m 0) (lives_of (bus_at m 0 ∷ session))) (sym r.engine_is) (orderly_told s.params s.set s.script (bus_at m 0 ∷ session) range r.driven o)
 
@@ -163,6 +163,6 @@ stops-there s m answer session retired w cause k range z x run sh same now arriv
       hist = record {
         lists = subst (λ r. Lists xs start (b ∷ session) (length r) s0.runs.now []) (sym none) lists;
         owned = owned-on s.params s.set session b m.engine c h0.owned;
-        words = words-on session b h0.words (rules I1 refl) (cycle-grown s.params s.set session b m.engine c);
+        words = words-on session b h0.words (rules I1) (cycle-grown s.params s.set session b m.engine c);
       };
     }

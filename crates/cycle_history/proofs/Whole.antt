@@ -34,7 +34,7 @@ use Rattle.cycle_events.proofs.Between.{start-shown, drain-shown, cycle-params, 
 use Rattle.cycle_refines.specs.RefinesInOrder.{extension_in, first_state}
 use Rattle.cycle_refines.proofs.Running.{run-refines}
 use Rattle.cycle_history.proofs.Retired.{retired-words}
-use Rattle.trace_laws.specs.Sessions.{Session, Begun, Cycled, Drained}
+use Rattle.trace_laws.specs.Sessions.{HasBytes, Session, Begun, Cycled, Drained}
 use Rattle.xif_signals.specs.declared.rule.Rule.TheVariants.{I1}
 use Rattle.engine_history.specs.Runs.{HasRun}
 use Rattle.engine_history.proofs.Run.{run_start, run_cycle, run_told}
@@ -153,7 +153,7 @@ goes-on meaning s p range g z =
     let x = extension_in s in
     let retired = retired_in p.logs in
     let beside' = beside s m p.buses range g.session g.run' in
-    let r = going x (first_state s) m answer p.buses retired g.world g.paired z g.shown g.extension beside'.cycle_is (beside'.rules I1 refl) (both-after s m answer p.buses range g.session g.run') g.now g.arrived g.hist in
+    let r = going x (first_state s) m answer p.buses retired g.world g.paired z g.shown g.extension beside'.cycle_is (beside'.rules I1) (both-after s m answer p.buses range g.session g.run') g.now g.arrived g.hist in
     let events = cycled (first_state s) 0 retired answer m g.world (subst IsInRange (sym g.params) range) g.paired z g.shown in
     record {
       params = cycle-params 0 answer m ∙ g.params;
@@ -257,8 +257,8 @@ replicate-first : (n : ℕ) (z : List (List ℕ)) → 1 ≤ n → slice_index_or
 replicate-first zero z h = absurd (omega (arith, h))
 replicate-first (suc n) z h = refl
 
-starts : {P : Type 0} (s : Setup) (predictor : P) → IsInRange s.params → Comes s (start s predictor)
-starts s predictor range =
+starts : {P : Type 0} (s : Setup) (predictor : P) → IsInRange s.params → HasBytes s.memory → Comes s (start s predictor)
+starts s predictor range bytes =
     let m = new_machines s in
     let units : units_of m.engine 0 ≡ zeros s.set = replicate-first s.params.num_harts (zeros s.set) range.num_harts.0 in
     let same : state_in 0 m ≡ first_state s = ap (λ u. record (first_state s) { units = u }) units in
@@ -267,7 +267,7 @@ starts s predictor range =
       extension = refl;
       unstopped = refl;
       paired = start-paired 0 s;
-      session = Begun 0 (omega (arith, range.num_harts));
+      session = Begun 0 (omega (arith, range.num_harts)) bytes;
       run' = run_start s;
       world = begun (first_state s);
       shown = subst (λ z. Shown z 0 [] m (begun z)) same (start-shown 0 s);
@@ -278,9 +278,9 @@ starts s predictor range =
       idle = λ w. refl;
     })
 
-comes : {P : Type 0} (meaning : Meaning P) (s : Setup) (predictor : P) → IsInRange s.params → Comes s (progress_of meaning s predictor)
-comes meaning s predictor range =
-    drains meaning s (drain_limit s) (cycles_until meaning is_stopped s.budget (start s predictor)) range (running meaning s s.budget (start s predictor) range (starts s predictor range))
+comes : {P : Type 0} (meaning : Meaning P) (s : Setup) (predictor : P) → IsInRange s.params → HasBytes s.memory → Comes s (progress_of meaning s predictor)
+comes meaning s predictor range bytes =
+    drains meaning s (drain_limit s) (cycles_until meaning is_stopped s.budget (start s predictor)) range (running meaning s s.budget (start s predictor) range (starts s predictor range bytes))
 
 -- nothing is in flight at the end of a run that didn't stop
 ends-empty : {P : Type 0} (meaning : Meaning P) (s : Setup) (predictor : P) → IsInRange s.params → Goes s (progress_of meaning s predictor) → (progress_of meaning s predictor).machines.core.flight ≡ []
@@ -301,8 +301,8 @@ ends-empty meaning s predictor range g = go s.window refl
         let lawful : IsLawful s = record { window = omega (arith, w); harts = omega (arith, range.num_harts) } in
         nothing p.machines.core.flight (either (is_stopped p.machines.core) (is_empty p.machines.core) (ap is_some g.unstopped) (drain-empty _ meaning s predictor lawful))
 
-pub run-uses : {P : Type 0} (meaning : Meaning P) (s : Setup) (predictor : P) → IsInRange s.params → UsesAreThoseThatRetire s (progress_of meaning s predictor).buses (run_of meaning s predictor).retired
-run-uses meaning s predictor range = by (comes meaning s predictor range)
+pub run-uses : {P : Type 0} (meaning : Meaning P) (s : Setup) (predictor : P) → IsInRange s.params → HasBytes s.memory → UsesAreThoseThatRetire s (progress_of meaning s predictor).buses (run_of meaning s predictor).retired
+run-uses meaning s predictor range bytes = by (comes meaning s predictor range bytes)
   where
     told : (now : State) → Hist (extension_in s) (first_state s) (progress_of meaning s predictor).buses (length (retired_in (progress_of meaning s predictor).logs)) now [] → UsesAreThoseThatRetire s (progress_of meaning s predictor).buses (run_of meaning s predictor).retired
     told now h =

@@ -9,6 +9,8 @@ use Rattle.cycle_spec.specs.State.{Core}
 use Rattle.cycle_spec.specs.Run.{Setup, Meaning, Run, has_no_entry, is_stopped, is_empty, end_by, progress_of, run_of}
 use Rattle.cycle_refines.specs.RefinesInOrder.{RefinesInOrder}
 use Rattle.cycle_refines.proofs.Running.{run-refines}
+use Rattle.cycle_history.specs.Uses.{UsesAreThoseThatRetire}
+use Rattle.cycle_history.proofs.Whole.{run-uses}
 use Rattle.eager_laws.specs.Eager.{IsEager}
 use Rattle.eager_laws.specs.Flights.{cycles_of, EachTold}
 use Rattle.eager_laws.proofs.Whole.{all-eager}
@@ -48,6 +50,7 @@ leaves s w run e over r = record {
 pub faithful : {P : Type 0} (meaning : Meaning P) (s : Setup) (predictor : P) → CanRun s → IsFaithful meaning s predictor (run_of meaning s predictor)
 faithful meaning s predictor c = record {
   refines = leaves s (progress_of meaning s predictor).machines.core (run_of meaning s predictor) refl (drain-empty _ meaning s predictor (lawful s c)) (run-refines meaning s predictor c.params);
+  uses = subst (λ buses. UsesAreThoseThatRetire s buses (run_of meaning s predictor).retired) (sym (reverse-reverse (progress_of meaning s predictor).buses)) (run-uses meaning s predictor c.params c.bytes);
   legal = subst (IsLegalSession s.params) (sym (reverse-reverse (progress_of meaning s predictor).buses)) (run-legal meaning s predictor c.params c.bytes);
   eager =
       let p = progress_of meaning s predictor in

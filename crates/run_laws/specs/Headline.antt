@@ -11,6 +11,7 @@ use Rattle.cycle_spec.specs.Run.{Setup, Meaning, Run}
 use Rattle.ahead_spec.specs.Refines.{lines}
 use Rattle.cycle_refines.specs.RefinesInOrder.{extension_in, first_state}
 use Rattle.trace_laws.specs.Sessions.{HasBytes}
+use Rattle.cycle_history.specs.Uses.{UsesAreThoseThatRetire}
 use Rattle.eager_laws.specs.Flights.{cycles_of, EachTold}
 use Rattle.eager_laws.specs.Eager.{IsEager}
 use Rattle.pace_laws.specs.Lawful.{pace_of}
@@ -38,6 +39,11 @@ pub record LeavesInOrder (s : Setup) (run : Run) : Type 0 where
   pub stop : (cause : StopCause) → run.end ≡ Stopped cause
       → next_step (extension_in s) now ≡ Stop cause
 
+-- The instructions that its coprocessors accept, and that are released, are those that retire, with
+-- the operands and the results of the in-order machine; each other one is killed.
+abbrev pub HasUsesInOrder : Setup → Run → Type 0
+HasUsesInOrder s run = UsesAreThoseThatRetire s (reverse run.buses) run.retired
+
 -- Its signals keep every rule in every cycle.
 abbrev pub HasLegalSignals : Setup → Run → Type 0
 HasLegalSignals s run = IsLegalSession s.params (reverse run.buses)
@@ -60,6 +66,7 @@ pub record KeepsPace (s : Setup) (run : Run) : Type 0 where
 pub record IsFaithful {P : Type 0} (meaning : Meaning P) (s : Setup) (predictor : P) (run : Run)
     : Type 0 where
   pub refines : LeavesInOrder s run
+  pub uses : HasUsesInOrder s run
   pub legal : HasLegalSignals s run
   pub eager : IsEagerThroughout meaning s predictor run
   pub paced : KeepsPace s run

@@ -6,7 +6,7 @@ use Rattle.xif_base.specs.declared.outside.WriteFail.{WriteFail}
 use Rattle.xif_base.specs.declared.outside.WriteFail.TheVariants as fail
 use Rattle.cycle_spec.specs.Run.{Setup}
 use Rattle.trace_laws.specs.Sessions.{HasBytes}
-use Rattle.run_laws.specs.Headline.{CanRun, LeavesInOrder, HasLegalSignals, KeepsPace}
+use Rattle.run_laws.specs.Headline.{CanRun, LeavesInOrder, HasUsesInOrder, HasLegalSignals, KeepsPace}
 use Rattle.run_laws.proofs.Joined.{faithful}
 use Rattle.xif_image.specs.Image.{Placement}
 use Rattle.xif_job.specs.Ranges.{IsLawfulJob}
@@ -35,6 +35,13 @@ leaves-by kind.Never setup can = (faithful never setup (record {}) can).refines
 leaves-by kind.Backward setup can = (faithful backward setup (record {}) can).refines
 leaves-by (kind.Bimodal bits) setup can = (faithful bimodal setup (replicate (2 ^ bits) 1) can).refines
 leaves-by (kind.Listed targets) setup can = (faithful listed setup (record { targets = targets; position = 0 }) can).refines
+
+uses-by : (k : Kind) (setup : Setup) → CanRun setup → HasUsesInOrder setup (run_by k setup)
+unfolding run_by
+uses-by kind.Never setup can = (faithful never setup (record {}) can).uses
+uses-by kind.Backward setup can = (faithful backward setup (record {}) can).uses
+uses-by (kind.Bimodal bits) setup can = (faithful bimodal setup (replicate (2 ^ bits) 1) can).uses
+uses-by (kind.Listed targets) setup can = (faithful listed setup (record { targets = targets; position = 0 }) can).uses
 
 legal-by : (k : Kind) (setup : Setup) → CanRun setup → HasLegalSignals setup (run_by k setup)
 unfolding run_by
@@ -89,6 +96,7 @@ answers-faithfully name find job image answer lawful bytes read means =
       is_run = refl;
       answers = same_answer answer (run_answer job image) (sym means ∙ outcome-is name find job image read);
       refines = leaves-by job.predictor setup can;
+      uses = uses-by job.predictor setup can;
       legal = legal-by job.predictor setup can;
       eager = eager-by job.predictor setup can;
       paced = paced-by job.predictor setup can;

@@ -2,7 +2,7 @@
 -- machine.
 use Rattle.std.specs.Prelude.{◌≡◌, ◌^◌, ℕ, List, Ok, replicate}
 use Rattle.cycle_spec.specs.Run.{Setup, Run}
-use Rattle.run_laws.specs.Headline.{LeavesInOrder, HasLegalSignals, IsEagerThroughout, KeepsPace}
+use Rattle.run_laws.specs.Headline.{LeavesInOrder, HasUsesInOrder, HasLegalSignals, IsEagerThroughout, KeepsPace}
 use Rattle.xif_image.specs.Image.{Placement}
 use Rattle.xif_job.specs.declared.job.Job.{Job}
 use Rattle.xif_job.specs.declared.predictor.Kind.{Kind}
@@ -31,6 +31,8 @@ pub record IsFaithfulAnswer (name : List ℕ) (find : Lookup) (answer : Answer) 
   pub answers : answer ≡ run_answer job image
   -- the run leaves what the in-order machine leaves after as many instructions,
   pub refines : LeavesInOrder (setup_of job image) run
+  -- its coprocessors compute what retires, and what they began besides is killed,
+  pub uses : HasUsesInOrder (setup_of job image) run
   -- its signals keep every rule of the interface in every cycle,
   pub legal : HasLegalSignals (setup_of job image) run
   -- it dispatches eagerly along its predictions,

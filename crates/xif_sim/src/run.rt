@@ -4,7 +4,7 @@ ghost use Rattle.std.specs.Option.{option_to_list};
 ghost use Rattle.xif_signals.specs.Bus.{FitsWidths};
 ghost use Rattle.cycle_spec.specs.Engine.{units_of};
 ghost use Rattle.cycle_spec.specs.Run.{run_of, end_by};
-ghost use Rattle.run_laws.specs.Headline.{LeavesInOrder, HasLegalSignals, IsEagerThroughout, KeepsPace};
+ghost use Rattle.run_laws.specs.Headline.{LeavesInOrder, HasUsesInOrder, HasLegalSignals, IsEagerThroughout, KeepsPace};
 ghost use Rattle.xif_sim.specs.Setup.{IsLawfulSetup};
 ghost use Rattle.xif_sim.specs.Simulating.{meaning};
 
@@ -72,6 +72,8 @@ pub fn simulate<P: Predictor>(
 
     // It leaves what the in-order machine leaves after as many instructions.
     ensures refines { IfOk result (λ run. LeavesInOrder setup.now run) }
+    // Its coprocessors compute what retires, and what they began besides is killed.
+    ensures uses { IfOk result (λ run. HasUsesInOrder setup.now run) }
     // In each cycle its signals keep every rule of the interface.
     ensures legal { IfOk result (λ run. HasLegalSignals setup.now run) }
     // It dispatches an instruction wherever one can be, along what the predictor answers.

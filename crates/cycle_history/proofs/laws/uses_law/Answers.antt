@@ -2,4 +2,4 @@ use Rattle.cycle_history.proofs.Whole.{run-uses}
 use Rattle.cycle_history.proofs.laws.uses_law.Goals as goal
 
 pub returns : goal.returns
-returns g c = λ meaning setup predictor range. run-uses meaning setup predictor range
+returns g c = λ meaning setup predictor range bytes. run-uses meaning setup predictor range bytes

@@ -1,6 +1,6 @@
 use Rattle.std.proofs.lemmas.Result.{IfOk-weaker}
 use Rattle.cycle_spec.specs.Run.{Run}
-use Rattle.run_laws.specs.Headline.{LeavesInOrder, HasLegalSignals, IsEagerThroughout, KeepsPace}
+use Rattle.run_laws.specs.Headline.{LeavesInOrder, HasUsesInOrder, HasLegalSignals, IsEagerThroughout, KeepsPace}
 use Rattle.xif_sim.specs.Simulating.{meaning}
 use Rattle.xif_sim.proofs.Faithful.{faithful-run}
 use Rattle.xif_sim.proofs.run.simulate.Goals as goal
@@ -11,6 +11,14 @@ returns-clause-refines g c =
     let m = meaning g.P.Predictor.answer g.P.Predictor.after in
     IfOk-weaker c.whole_run.result _ (λ (run : Run). LeavesInOrder setup run)
     (λ run e. (faithful-run m setup c.args.predictor.now run c.requires c.has_bytes.ensures e).refines)
+    c.whole_run.ensures.run
+
+pub returns-clause-uses : goal.returns-clause-uses
+returns-clause-uses g c =
+    let setup = c.args.setup.now in
+    let m = meaning g.P.Predictor.answer g.P.Predictor.after in
+    IfOk-weaker c.whole_run.result _ (λ (run : Run). HasUsesInOrder setup run)
+    (λ run e. (faithful-run m setup c.args.predictor.now run c.requires c.has_bytes.ensures e).uses)
     c.whole_run.ensures.run
 
 pub returns-clause-legal : goal.returns-clause-legal
