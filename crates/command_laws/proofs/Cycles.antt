@@ -1,5 +1,5 @@
 -- A run has no more cycles than its budget and the drain behind it.
-use Rattle.std.proofs.Common.{◌≡◌, ◌≤◌, ◌+◌, ◌||◌, ℕ, zero, suc, Bool, true, false, length, arith}
+use Rattle.std.proofs.Common.{◌≤◌, ◌+◌, ◌||◌, ℕ, zero, suc, Bool, true, false, length, arith}
 use Rattle.std.proofs.lemmas.List.{length-reverse}
 use Rattle.cycle_spec.specs.State.{Core}
 use Rattle.cycle_spec.specs.Run.{Setup, Meaning, Progress, start, next, unless, cycles_until, is_stopped, is_empty, drain_limit, with_drain, drained, progress_of, run_of}

@@ -1,6 +1,5 @@
 pub mod Jobs
 pub mod Images
-pub mod Lengths
 pub mod Sizes
 pub mod Cycles
 pub mod Runs

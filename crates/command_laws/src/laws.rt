@@ -12,14 +12,13 @@ ghost use Rattle.command_laws.specs.Commands.{HoldBytes, SaysCycles, Runs, RunsJ
 
 /// For every job and image for which `run` has an answer: where the trace stands in its file as the
 /// run wrote it, `judge` by a job with the same parameters and without a table `map` answers
-/// `legal cycles=N`, with N the number of cycles in the report of the run. A trace that is longer
-/// than `judge` reads is refused as too big. It is said where no register pairs are read
-/// (X_DUALREAD is 0).
+/// `legal cycles=N`, with N the number of cycles in the report of the run. No trace is longer than
+/// the waveforms that `judge` reads. It is said where no register pairs are read (X_DUALREAD is 0).
 pub fn trace_is_judged_legal()
     ensures { (run_words judge_words : List (String Global)) (before after : Files) (job : Job)
         (answer : Answer) → HoldBytes before → job.params.dual_read ≡ 0 →
         Runs run_words before job answer → KeepsTrace before after job answer →
-        Judges judge_words after job → IsJudgedLegal judge_words after job.trace answer.printed }
+        Judges judge_words after job → IsJudgedLegal judge_words after answer.printed }
 {}
 
 /// So a call of `judge` that ends behind a call of `run` that is done prints `legal cycles=N`, with
