@@ -1,10 +1,11 @@
 -- Steps of loops over entries.
-use Rattle.std.proofs.Common.{◌≡◌, ◌<◌, ◌+◌, ◌-◌, ◌++◌, ℕ, suc, zero, Bool, true, false, List, Option, [], ◌∷◌, Some, length, take, drop, map, get_or, set, ap, ◌∙◌, arith, drop-cons}
+use Rattle.std.proofs.Common.{◌≡◌, ◌<◌, ◌+◌, ◌-◌, ◌++◌, ℕ, suc, zero, Bool, true, false, List, Option, [], ◌∷◌, Some, length, take, drop, map, get_or, set, ap, sym, ◌∙◌, arith, drop-cons}
 use Rattle.std.specs.Prelude.{slice_get, find, filter, cond}
 use Rattle.std.specs.List.{range_with_len, last_or}
 use Rattle.std.proofs.lemmas.List.{take_more}
 use Rattle.std.proofs.lemmas.Option.{slice_get_within, get_or_from_slice_get}
 use Rattle.std.proofs.lemmas.Grind.{common_steps}
+use Rattle.circular_buffer.specs.Buffer.{Buffer, buffer}
 use Rattle.cycle_spec.specs.declared.entry.Entry.{Entry}
 
 mapped_suc : {X : Type 0} (f : X → X) (xs : List X) (i : ℕ) (d : X) → i < length xs → set (map f (take i xs) ++ drop i xs) i (f (get_or (map f (take i xs) ++ drop i xs) i d)) ≡ map f (take (suc i) xs) ++ drop (suc i) xs
@@ -17,6 +18,15 @@ pub mapped_more : {X : Type 0} (f : X → X) (xs ys : List X) (i : ℕ) (d : X) 
 mapped_more f xs ys i d h e =
     let next : suc i ≡ i + 1 = omega arith in
     ap (λ l. set l i (f (get_or l i d))) e ∙ mapped_suc f xs i d h ∙ ap (λ n. map f (take n xs) ++ drop n xs) next
+
+-- likewise in a ring
+pub changed_more : {X : Type 0} (f : X → X) (old ring : Buffer X) (i : ℕ) (x y : X) → i < length old.items → ring ≡ buffer (map f (take i old.items) ++ drop i old.items) old.capacity → slice_get ring.items i ≡ Some x → y ≡ f x
+    → buffer (set ring.items i y) ring.capacity ≡ buffer (map f (take (i + 1) old.items) ++ drop (i + 1) old.items) old.capacity
+changed_more f old ring i x y h e found changed =
+    let items : ring.items ≡ map f (take i old.items) ++ drop i old.items = ap (λ r. r.items) e in
+    let it : get_or ring.items i x ≡ x = get_or_from_slice_get ring.items i x x found in
+    let more = ap (set ring.items i) (changed ∙ ap f (sym it)) ∙ mapped_more f old.items ring.items i x h items in
+    ap (λ xs. buffer xs ring.capacity) more ∙ ap (λ r. buffer (map f (take (i + 1) old.items) ++ drop (i + 1) old.items) r.capacity) e
 
 -- an entry with those behind it, and with those before it
 pub drop_at : (xs : List Entry) (i : ℕ) (x : Entry) → slice_get xs i ≡ Some x → drop i xs ≡ x ∷ drop (i + 1) xs

@@ -29,14 +29,11 @@ pub enum Change {
 pub(crate) fn change_all(ring: &mut HeapCircularBuffer<Entry>, seq: u64, change: Change)
     ensures { ring.new ≡ buffer (map (changed change seq) ring.old.items) ring.old.capacity }
 {
-    change_slice(ring.make_contiguous(), seq, change);
-}
-
-fn change_slice(entries: &mut [Entry], seq: u64, change: Change)
-    ensures { entries.new ≡ map (changed change seq) entries.old }
-{
-    for entry in entries.iter_mut() {
-        change_entry(entry, seq, change);
+    for index in 0..ring.len() {
+        match ring.get_mut(index) {
+            Some(entry) => change_entry(entry, seq, change),
+            None => unreachable!(),
+        }
     }
 }
 

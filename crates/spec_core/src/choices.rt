@@ -31,27 +31,36 @@ impl CoreState {
     pub fn choices(&self) -> Choices
         ensures { AreChosen self.now result }
     {
-        self.choices_in(self.mode)
+        let mut choices = NO_CHOICES;
+        self.choose(&mut choices);
+        choices
     }
 
-    fn choices_in(&self, mode: Mode) -> Choices
-        ensures value { result ≡ spec.choices_in self.now mode }
-        ensures fits { FitsPresent self.now.params result }
+    /// The same, in place of other choices.
+    pub fn choose(&self, choices: &mut Choices)
+        ensures { AreChosen self.now choices.new }
+    {
+        self.choose_in(self.mode, choices);
+    }
+
+    fn choose_in(&self, mode: Mode, choices: &mut Choices)
+        ensures value { choices.new ≡ spec.choices_in self.now mode }
+        ensures fits { FitsPresent self.now.params choices.new }
     {
         match mode {
-            Mode::Running => self.choices_by(stop_at(&self.table)),
-            Mode::DrainBegins => self.choices_drain_begins(stay_of(&self.table)),
-            Mode::Draining => self.choices_draining(self.table.len()),
+            Mode::Running => self.choose_by(stop_at(&self.table), choices),
+            Mode::DrainBegins => *choices = self.choices_drain_begins(stay_of(&self.table)),
+            Mode::Draining => *choices = self.choices_draining(self.table.len()),
         }
     }
 
-    fn choices_by(&self, stop: Option<StopCause>) -> Choices
-        ensures value { result ≡ spec.choices_by self.now stop }
-        ensures fits { FitsPresent self.now.params result }
+    fn choose_by(&self, stop: Option<StopCause>, choices: &mut Choices)
+        ensures value { choices.new ≡ spec.choices_by self.now stop }
+        ensures fits { FitsPresent self.now.params choices.new }
     {
         match stop {
-            None => self.choices_running(),
-            Some(cause) => self.choices_stopping(cause),
+            None => self.choose_running(choices),
+            Some(cause) => *choices = self.choices_stopping(cause),
         }
     }
 
@@ -68,38 +77,39 @@ impl CoreState {
     }
 
     /// A cut by a store comes before one by a control transfer, and then nothing executes.
-    fn choices_running(&self) -> Choices
-        ensures value { result ≡ spec.choices_running self.now }
-        ensures fits { FitsPresent self.now.params result }
+    fn choose_running(&self, choices: &mut Choices)
+        ensures value { choices.new ≡ spec.choices_running self.now }
+        ensures fits { FitsPresent self.now.params choices.new }
     {
         let retire = retirement_among(&self.table, self.table.len());
         let hit = store_cut(&self.table, retire);
         let execute = self.execution_unless(hit);
         let cut = either_cut(hit, self.control_cut(execute));
-        self.choices_with(retire, execute, cut)
+        self.choose_with(retire, execute, cut, choices);
     }
 
-    fn choices_with(
+    /// Field by field, so that the choices are not copied.
+    fn choose_with(
         &self,
         retire: Option<Entry>,
         execute: Option<Executed>,
         cut: Option<Cut>,
-    ) -> Choices
-        ensures value { result ≡ spec.choices_with self.now retire execute cut }
-        ensures fits { FitsPresent self.now.params result }
+        choices: &mut Choices,
+    )
+        ensures value { choices.new ≡ spec.choices_with self.now retire execute cut }
+        ensures fits { FitsPresent self.now.params choices.new }
     {
         let offer = self.table.first_behind(0, Wanted::Open);
-        Choices {
-            retire,
-            execute,
-            cut,
-            offer,
-            present: self.present_in(offer, self.table.len()),
-            kill: kill_among(&self.table, cut, offer),
-            release: release_in(&self.table, cut),
-            dispatch: self.may_dispatch(cut),
-            ..NO_CHOICES
-        }
+        choices.stop = None;
+        choices.retire = retire;
+        choices.execute = execute;
+        choices.cut = cut;
+        choices.drain = None;
+        choices.offer = offer;
+        choices.present = self.present_in(offer, self.table.len());
+        choices.kill = kill_among(&self.table, cut, offer);
+        choices.release = release_in(&self.table, cut);
+        choices.dispatch = self.may_dispatch(cut);
     }
 
     /// Nothing executes where a store cuts.

@@ -94,7 +94,7 @@ impl Core {
             → IsCountedBy (cycle + 1) self.new }
     {
         let log = self.state.clock(&self.planned, bus, predictor);
-        self.planned = self.state.choices();
+        self.state.choose(&mut self.planned);
         log
     }
 
