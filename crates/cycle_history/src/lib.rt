@@ -2,7 +2,8 @@
 //!
 //! `specs/Words.antt` has the words of the in-order machine that the units compute, each with the
 //! state in which that machine comes to it. `specs/Uses.antt` says of each use of a run which of
-//! them it is for, and what the buses carry for it. `uses_law` says it of every run of `cycle_spec`.
+//! them it is for, and what the buses carry for it. `uses_law` says it of every run of
+//! `cycle_spec`.
 //!
 //! How it is proved: behind every cycle, the accepted uses that aren't killed are, in the order of
 //! their starts, those of the words that retired and then those of the accepted instructions in
