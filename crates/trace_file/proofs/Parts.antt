@@ -1,5 +1,5 @@
 -- A front of what was written so far is a front of the whole.
-use Rattle.std.proofs.Common.{◌≡◌, ◌≤◌, ◌+◌, ◌-◌, ℕ, List, [], ◌∷◌, ◌++◌, length, take, Option, Some, None, arith, refl, sym, ap, subst, ◌∙◌, append_assoc}
+use Rattle.std.proofs.Common.{◌≡◌, ◌≤◌, ◌+◌, ℕ, List, [], ◌∷◌, ◌++◌, length, take, Option, arith, refl, sym, ap, subst, ◌∙◌, append_assoc}
 use Rattle.std.specs.Option.{option_map}
 use Rattle.std.specs.FinMap as map
 use Rattle.std.proofs.lemmas.Grind.{common_steps}
@@ -9,7 +9,7 @@ use Rattle.xif_base.specs.declared.outside.WriteFail.TheVariants.{NoMemory}
 use Rattle.xif_signals.specs.declared.bus.Bus.{Bus}
 use Rattle.vcd_text.specs.Writing.{Progress, Wrote}
 use Rattle.vcd_text.specs.Written.{cycles_text, vcd_text_of}
-use Rattle.xif_targets.specs.Writing.{IsWritten, IsWrittenInPart, IsGrowing, IsCountedFail}
+use Rattle.xif_targets.specs.Writing.{IsWrittenInPart, IsCountedFail}
 use Rattle.xif_targets.proofs.Growing.{growing-part}
 use Rattle.trace_file.specs.Tracing.{Tracing, IsTracing, trace_text}
 

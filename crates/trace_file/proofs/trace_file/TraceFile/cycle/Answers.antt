@@ -1,4 +1,4 @@
-use Rattle.std.proofs.Common.{◌≡◌, ◌++◌, [], ◌∷◌, sym, ap, subst, ◌∙◌}
+use Rattle.std.proofs.Common.{◌++◌, [], ◌∷◌, sym, subst}
 use Rattle.std.proofs.lemmas.Result.{IfOk-at_ok, IfErr-weaker, on_ok_weaker, on_err_weaker}
 use Rattle.vcd_text.specs.Writing.{Wrote}
 use Rattle.xif_targets.proofs.Growing.{on_err}
