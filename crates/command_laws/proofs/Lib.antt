@@ -3,3 +3,4 @@ pub mod Images
 pub mod Lengths
 pub mod Runs
 pub mod Verdicts
+pub mod Calls

@@ -1,5 +1,5 @@
 -- The run of a job that is read, with its image: its buses fit their widths, and are a legal session.
-use Rattle.std.proofs.Common.{◌≡◌, ℕ, Bool, true, false, if◌then◌else◌, List, [], ◌∷◌, length, reverse, replicate, Option, Some, None, Result, Ok, Err, nat_le, refl, sym, ap, subst, arith}
+use Rattle.std.proofs.Common.{◌≡◌, ℕ, Bool, true, false, if◌then◌else◌, List, [], ◌∷◌, length, reverse, replicate, Option, Some, None, Result, Ok, Err, nat_le, refl, sym, ap, subst}
 use Rattle.std.specs.List.{All}
 use Rattle.std.proofs.lemmas.List.{reverse-reverse}
 use Rattle.std.proofs.lemmas.List.Elements.{All-nil, All-cons}
@@ -11,9 +11,7 @@ use Rattle.xif_image.specs.Image.{Placement}
 use Rattle.xif_signals.specs.Bus.{FitsWidths}
 use Rattle.xif_session.specs.Legal.{IsLegalSession}
 use Rattle.cycle_spec.specs.Run.{Setup, Meaning, Run, progress_of, run_of}
-use Rattle.trace_laws.specs.Sessions.{HoldsBut}
-use Rattle.trace_laws.proofs.Runs.{run_said}
-use Rattle.trace_laws.proofs.Sessions.{session_keeps, all_rules}
+use Rattle.trace_laws.proofs.Runs.{run-legal}
 use Rattle.width_laws.specs.Ranges.{HasRanges}
 use Rattle.width_laws.proofs.Memories.{IsByte}
 use Rattle.width_laws.proofs.Runs.{widths, each-of}
@@ -39,25 +37,18 @@ pub record IsGood (setup : Setup) (run : Run) : Type 0 where
   pub fits : All (FitsWidths setup.params) run.buses
   pub legal : IsLegalSession setup.params (reverse run.buses)
 
--- core and engine keep the rules
-legal-run : {P : Type 0} (meaning : Meaning P) (setup : Setup) (predictor : P) → IsInRange setup.params → setup.params.dual_read ≡ 0 → IsLegalSession setup.params (progress_of meaning setup predictor).buses
-legal-run meaning setup predictor range none =
-    all_rules setup.params (progress_of meaning setup predictor).buses
-    (run_said setup (HoldsBut (λ rule. false) setup.params) meaning predictor (omega (arith, range.num_harts))
-    (λ m session x. session_keeps (λ rule. false) setup range (λ h. none) 0 m session x))
-
-good-run : {P : Type 0} (meaning : Meaning P) (setup : Setup) (predictor : P) → HasRanges setup → setup.params.dual_read ≡ 0 → IsGood setup (run_of meaning setup predictor)
-good-run meaning setup predictor r none = record {
+good-run : {P : Type 0} (meaning : Meaning P) (setup : Setup) (predictor : P) → HasRanges setup → IsGood setup (run_of meaning setup predictor)
+good-run meaning setup predictor r = record {
   fits = widths meaning setup predictor r;
-  legal = subst (IsLegalSession setup.params) (sym (reverse-reverse (progress_of meaning setup predictor).buses)) (legal-run meaning setup predictor r.params none);
+  legal = subst (IsLegalSession setup.params) (sym (reverse-reverse (progress_of meaning setup predictor).buses)) (run-legal meaning setup predictor r.params r.bytes);
 }
 
-pub run-good : (k : Kind) (setup : Setup) → HasRanges setup → setup.params.dual_read ≡ 0 → IsGood setup (run_by k setup)
+pub run-good : (k : Kind) (setup : Setup) → HasRanges setup → IsGood setup (run_by k setup)
 unfolding run_by
-run-good kind.Never setup r none = good-run never setup _ r none
-run-good kind.Backward setup r none = good-run backward setup _ r none
-run-good (kind.Bimodal bits) setup r none = good-run bimodal setup _ r none
-run-good (kind.Listed targets) setup r none = good-run listed setup _ r none
+run-good kind.Never setup r = good-run never setup _ r
+run-good kind.Backward setup r = good-run backward setup _ r
+run-good (kind.Bimodal bits) setup r = good-run bimodal setup _ r
+run-good (kind.Listed targets) setup r = good-run listed setup _ r
 
 -- ---- the files of a job
 

@@ -143,7 +143,7 @@ file-beyond text h =
     let beyond : nat_le (length text) longest_waveform ≡ false = grind (arith, nat_tests) in
     ap (λ t. if t then Ok text else Err (TooBig which.Waveform)) beyond
 
-module _ (run_words judge_words : List (String Global)) (before after : Files) (job : Job) (answer : Answer) (bytes : HoldBytes before) (dual : job.params.dual_read ≡ 0)
+module _ (run_words judge_words : List (String Global)) (before after : Files) (job : Job) (answer : Answer) (bytes : HoldBytes before)
     (runs : Runs run_words before job answer) (keeps : KeepsTrace before after job answer) (judges : Judges judge_words after job) where
   has : HasRun (found before) job answer
   has = run-of run_words before job answer runs
@@ -152,7 +152,7 @@ module _ (run_words judge_words : List (String Global)) (before after : Files) (
   run = run_by job.predictor (setup_of job has.image)
 
   good : IsGood (setup_of job has.image) run
-  good = run-good job.predictor (setup_of job has.image) (setup-ranges before runs.name job has.image bytes runs.is_job has.is_image) dual
+  good = run-good job.predictor (setup_of job has.image) (setup-ranges before runs.name job has.image bytes runs.is_job has.is_image)
 
   range : IsInRange job.params
   range = (setup-ranges before runs.name job has.image bytes runs.is_job has.is_image).params

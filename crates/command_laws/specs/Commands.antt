@@ -1,5 +1,5 @@
 -- A call of `run`, and a call of `judge` on the trace that it writes.
-use Rattle.std.specs.Prelude.{◌≡◌, ◌≤◌, ◌<◌, ◌++◌, ℕ, List, length, Option, Some, None, Ok, Err, All, String, true, false}
+use Rattle.std.specs.Prelude.{◌≡◌, ◌≤◌, ◌<◌, ◌++◌, ℕ, List, [], length, Option, Some, None, Ok, Err, All, String, true, false}
 use Rattle.std.specs.declared.alloc.Global.{Global}
 use Rattle.std.specs.FinMap as map
 use Rattle.toml.specs.Data.{Members, get_member}
@@ -10,6 +10,8 @@ use Rattle.inorder_machine.specs.declared.stop.StopCause.{StopCause}
 use Rattle.xif_job.specs.Document.{document_of}
 use Rattle.xif_job.specs.declared.job.Job.{Job}
 use Rattle.xif_cli.specs.declared.status.Status.TheVariants.{TooBig}
+use Rattle.xif_cli.specs.declared.answer.End.{End}
+use Rattle.xif_cli.specs.Afterwards.{IsDone}
 use Rattle.xif_cli.specs.Ending.{texts_of, Means}
 use Rattle.xif_cli.specs.Judged.{legal_answer}
 use Rattle.xif_cli.specs.Limits.{longest_waveform}
@@ -74,3 +76,17 @@ pub record IsJudgedLegal (words : List (String Global)) (files : Files) (wavefor
   pub legal : length text ≤ longest_waveform → Means words (found files) (Ok (legal_answer cycles))
   pub too_big : longest_waveform < length text →
       Means words (found files) (Err (TooBig which.Waveform))
+
+-- A call with these words, over these files and with an output of its own, ends as it is meant to
+-- (`output_is_defined` of `xif`): it ends so, leaves these files, and has printed this.
+abbrev pub Calls : (words : List (String Global)) (before : Files) (end : End) (after : Files)
+    (printed : List ℕ) → Type 0
+Calls words before end after printed =
+    IsDone (λ answer. Means words (found before) (Ok answer)) end before (Some after)
+    (Some []) (Some printed)
+
+-- The words are those of `run` for this job.
+pub record RunsJob (words : List (String Global)) (files : Files) (job : Job) : Type 0 where
+  pub name : List ℕ
+  pub command : IsCommand (texts_of words) (form.Run name)
+  pub is_job : job_in true name (found files) ≡ Ok job

@@ -2,17 +2,19 @@
 //!
 //! The commands are those of `xif_cli`, by what their words mean over the files that there are.
 //! `trace_is_judged_legal` is about `run`, and `judge` on the trace that it wrote: the verdict is
-//! `legal cycles=N`, with N the number of cycles in the report of the run. `specs/Commands.antt` has
-//! what it says of the two calls.
+//! `legal cycles=N`, with N the number of cycles in the report of the run.
+//! `judge_after_run_prints_legal` says the same of two calls of the program. `specs/Commands.antt`
+//! has what they say of the two calls.
 //!
 //! It rests on four laws: core and engine keep the rules (`trace_laws`), what they show fits the
 //! widths of the signals (`width_laws`), so the text of the waveform has samples that read as the
 //! buses again, and what is judged of the text is what the rules say of the buses
 //! (`waveform_laws`). In `proofs/`, `Jobs` has what holds of each job that is read, `Images` that a
 //! memory holds bytes, `Lengths` that a waveform is longer than the run, `Runs` the run of a job,
-//! and `Verdicts` the two calls.
+//! `Verdicts` what `judge` means behind it, and
+//! `Calls` what the two calls print.
 #![tactic(auto)]
 
 mod laws;
 
-pub use laws::trace_is_judged_legal;
+pub use laws::{judge_after_run_prints_legal, trace_is_judged_legal};

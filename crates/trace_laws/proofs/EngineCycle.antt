@@ -185,7 +185,7 @@ module _ (e : Engine) (p : Past) (cpu : CpuOut) (input : CpuIn) (t : EngineTold 
             apart = t.apart;
           }
 
-  started_stage : Stage (named p bus) harts bus (use_or (offered_use e)).start (is_some (offered_use e)) (p.cycle + 1) (started_uses e cpu)
+  pub started_stage : Stage (named p bus) harts bus (use_or (offered_use e)).start (is_some (offered_use e)) (p.cycle + 1) (started_uses e cpu)
   started_stage = go (starts e cpu) refl
     where
       go : (x : Bool) → starts e cpu ≡ x → Stage (named p bus) harts bus (use_or (offered_use e)).start (is_some (offered_use e)) (p.cycle + 1) (start_step x cpu e.cycle e.uses)
@@ -195,7 +195,7 @@ module _ (e : Engine) (p : Past) (cpu : CpuOut) (input : CpuIn) (t : EngineTold 
           subst (λ c. Stage (named p bus) harts bus (use_or (offered_use e)).start (is_some (offered_use e)) (p.cycle + 1) (start_step true cpu c e.uses)) (sym t.clock)
           (stage_started p bus harts _ (is_some (offered_use e)) e.uses s (k.hart (both-true cpu.issue_valid _ s).0) (or-false_left (is_running (p.facts (engine.issue_key cpu))) _ (k.i2 s)) first_stage)
 
-  told_started : Each (Told (named p bus) harts) (started_uses e cpu)
+  pub told_started : Each (Told (named p bus) harts) (started_uses e cpu)
   told_started = Each-from (Kept (named p bus) harts bus (use_or (offered_use e)).start (is_some (offered_use e))) (Told (named p bus) harts) (started_uses e cpu) (λ u x. x.0) started_stage.each
 
   -- the use on the issue channel has no response

@@ -178,7 +178,7 @@ no_flags : (flags : Option ReadFlags) (r : Option Response) → r ≡ None → (
 no_flags None r q h x = tt
 no_flags (Some f) r q h x = absurd (not-none r q (h refl))
 
-no_hit : (response : Option Response) (hit : Option Hit) → response ≡ None → AnsweredBy response hit → hit ≡ None
+pub no_hit : (response : Option Response) (hit : Option Hit) → response ≡ None → AnsweredBy response hit → hit ≡ None
 no_hit None hit q a = a
 no_hit (Some x) hit q a = cc
 

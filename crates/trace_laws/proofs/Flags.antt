@@ -49,6 +49,6 @@ flags-within p a a' k =
 pub low-of : (low a b : ℕ) → (low + 2 ^ 32 * a) % 2 ^ 32 ≡ (low + 2 ^ 32 * b) % 2 ^ 32
 low-of low a b = omega arith
 
--- the high half, of two words
-pub high-of : (high a b : ℕ) → a < 2 ^ 32 → b < 2 ^ 32 → (a + 2 ^ 32 * high) / 2 ^ 32 ≡ (b + 2 ^ 32 * high) / 2 ^ 32
-high-of high a b h k = omega (arith, h, k)
+-- the high half, above a word
+pub high-of : (low high : ℕ) → low < 2 ^ 32 → (low + 2 ^ 32 * high) / 2 ^ 32 ≡ high
+high-of low high h = omega (arith, h)

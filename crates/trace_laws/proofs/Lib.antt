@@ -16,6 +16,9 @@ pub mod Stable
 pub mod Flags
 pub mod Words
 pub mod Presents
+pub mod SmallRows
+pub mod SmallCore
+pub mod SmallEngine
 pub mod Shown
 pub mod ShownAfter
 pub mod Sessions

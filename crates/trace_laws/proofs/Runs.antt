@@ -1,11 +1,12 @@
 -- The buses of a run are those of a session.
-use Rattle.std.proofs.Common.{◌≡◌, ◌≢◌, ◌<◌, ◌||◌, ℕ, zero, suc, Bool, true, false, Option, Some, None, List, ◌∷◌, refl, sym, ap, ◌∙◌}
+use Rattle.std.proofs.Common.{◌≡◌, ◌≢◌, ◌<◌, ◌||◌, ℕ, zero, suc, Bool, true, false, Option, Some, None, List, ◌∷◌, refl, sym, ap, ◌∙◌, arith}
 use Rattle.std.specs.Prelude.{is_some}
 use Rattle.std.specs.Option.{option_or}
 use Rattle.inorder_machine.specs.declared.stop.StopCause.{StopCause}
+use Rattle.xif_base.specs.Params.{IsInRange}
 use Rattle.xif_signals.specs.declared.bus.Bus.{Bus}
 use Rattle.xif_session.specs.Facts.{Past}
-use Rattle.xif_session.specs.Legal.{EachCycle}
+use Rattle.xif_session.specs.Legal.{HoldsAll, EachCycle, IsLegalSession}
 use Rattle.cycle_spec.specs.declared.choices.Mode.{Mode}
 use Rattle.cycle_spec.specs.declared.choices.Mode.TheVariants.{Running, DrainBegins, Draining}
 use Rattle.cycle_spec.specs.State.{Core}
@@ -13,7 +14,8 @@ use Rattle.cycle_spec.specs.Choices.{choices, choices_in}
 use Rattle.cycle_spec.specs.Core.{mode_after}
 use Rattle.cycle_spec.specs.Cycle.{Machines, bus_at, cycle}
 use Rattle.cycle_spec.specs.Run.{Setup, Meaning, Progress, start, next, unless, cycles_until, is_stopped, is_empty, drain_limit, with_drain, drained, progress_of}
-use Rattle.trace_laws.specs.Sessions.{Session, Begun, Cycled, Drained}
+use Rattle.trace_laws.specs.Sessions.{HasBytes, Session, Begun, Cycled, Drained}
+use Rattle.trace_laws.proofs.Sessions.{session_keeps}
 
 -- what is said of each cycle of a session, with the next one
 abbrev pub Said : Setup → (Past → Bus → Type 0) → Type 0
@@ -103,7 +105,12 @@ after setup P meaning q said g = by (is_stopped q.machines.core || is_empty q.ma
           mode = λ h. cc;
         })).goes.so_far
 
-pub run_said : {T : Type 0} (setup : Setup) (P : Past → Bus → Type 0) (meaning : Meaning T) (predictor : T) → 0 < setup.params.num_harts → Said setup P → EachCycle P (progress_of meaning setup predictor).buses
-run_said setup P meaning predictor below said =
+pub run_said : {T : Type 0} (setup : Setup) (P : Past → Bus → Type 0) (meaning : Meaning T) (predictor : T) → 0 < setup.params.num_harts → HasBytes setup.memory → Said setup P → EachCycle P (progress_of meaning setup predictor).buses
+run_said setup P meaning predictor below bytes said =
     after setup P meaning (cycles_until meaning is_stopped setup.budget (start setup predictor)) said
-    (running setup P meaning setup.budget (start setup predictor) said (record { so_far = tt; session = λ z. Begun 0 below }))
+    (running setup P meaning setup.budget (start setup predictor) said (record { so_far = tt; session = λ z. Begun 0 below bytes }))
+
+-- each run is legal
+pub run-legal : {T : Type 0} (meaning : Meaning T) (setup : Setup) (predictor : T) → IsInRange setup.params → HasBytes setup.memory → IsLegalSession setup.params (progress_of meaning setup predictor).buses
+run-legal meaning setup predictor range bytes =
+    run_said setup (HoldsAll setup.params) meaning predictor (omega (arith, range.num_harts)) bytes (λ m session x. session_keeps setup range 0 m session x)

@@ -1,6 +1,7 @@
 -- While a register transaction waits, what it shows stays.
-use Rattle.std.proofs.Common.{◌≡◌, ◌<◌, ◌+◌, ◌++◌, ◌*◌, ◌^◌, ℕ, zero, suc, Bool, true, false, if◌then◌else◌, Option, Some, None, List, ◌∷◌, length, slice_index, refl, sym, ap, ◌∙◌, subst, arith}
-use Rattle.std.specs.Prelude.{IfSome, nat_lt}
+use Rattle.std.proofs.Common.{◌≡◌, ◌<◌, ◌+◌, ◌++◌, ◌*◌, ◌^◌, ℕ, zero, suc, Bool, true, false, Option, Some, None, List, ◌∷◌, length, slice_index, refl, sym, ap, ◌∙◌, subst, arith}
+use Rattle.std.specs.Prelude.{IfSome}
+use Rattle.std.specs.Option.{option_map_or}
 use Rattle.xif_base.specs.Params.{IsInRange}
 use Rattle.xif_base.specs.Flags.{odd_bit, even_bit}
 use Rattle.inorder_machine.specs.declared.units.Half.{Half}
@@ -8,8 +9,8 @@ use Rattle.inorder_machine.specs.declared.units.Half.TheVariants.{Low, High}
 use Rattle.xif_signals.specs.declared.bus.Bus.{Bus}
 use Rattle.xif_signals.specs.Known.{has_flag}
 use Rattle.xif_session.specs.Facts.{Past, same_key, register_key, register_waits, register_continues}
-use Rattle.xif_session.specs.Rules.{IsWithin, HoldsG3, HoldsG4, lane_value, low_half}
-use Rattle.xif_session.proofs.Options.{both-true, key_is, lt_in}
+use Rattle.xif_session.specs.Rules.{IsWithin, HoldsG3, HoldsG4, lane_value, low_half, high_half}
+use Rattle.xif_session.proofs.Options.{both-true, key_is}
 use Rattle.cycle_spec.specs.declared.choices.Choices.{Choices}
 use Rattle.cycle_spec.specs.declared.choices.Presented.{Presented}
 use Rattle.cycle_spec.specs.declared.entry.Entry.{Entry}
@@ -28,9 +29,10 @@ use Rattle.cycle_paired.proofs.Choosing.{Presents}
 use Rattle.ahead_laws.proofs.Presenting.{set-here, flags_of_halves}
 use Rattle.trace_laws.proofs.CoreChosen.{Chosen}
 use Rattle.trace_laws.proofs.CoreRules.{some_case}
-use Rattle.trace_laws.proofs.Flags.{flags-within, low-of}
+use Rattle.trace_laws.proofs.Flags.{flags-within, low-of, high-of}
 use Rattle.trace_laws.proofs.Paths.{Fit}
 use Rattle.trace_laws.proofs.Presents.{presented-is}
+use Rattle.trace_laws.proofs.SmallCore.{SmallCore, half-small}
 
 -- each half that was there for one entry is there for another, with the same value
 abbrev pub Grows : Core → Entry → Core → Entry → Type 0
@@ -43,6 +45,7 @@ pub record Shown (w : Core) (last : Bus) : Type 0 where
   pub params_are : before.params ≡ w.params
   pub flags : last.register_rs_valid ≡ flags_of before entry
   pub lanes : (lane : ℕ) → lane < 3 → lane_value last lane ≡ lane_of before entry lane
+  pub small : (lane : ℕ) (half : Half) → value_or_zero (half_of before entry lane half) < 2 ^ 32
   pub stays : Each (λ x. is_unknown x ≡ true → x.id ≡ last.register_id → Grows before entry w x) w.flight
 
 pub record Operands (w : Core) (p : Past) : Type 0 where
@@ -141,17 +144,25 @@ module _ (hart : ℕ) (m : Machines) (p : Past) (k : Paired hart m) (c : Chosen 
       ∙ low-of v (value_or_zero (half_of m.core x.one.entry lane High)) (value_or_zero (half_of s.before s.entry lane High))
       ∙ ap (λ y. low_half (value_or_zero y + 2 ^ 32 * value_or_zero (half_of s.before s.entry lane High))) (sym q) ∙ ap low_half (sym (s.lanes lane small)))
 
-  -- without X_DUALREAD there are no high halves
-  pub keeps_g4 : IsInRange m.core.params → m.core.params.dual_read ≡ 0 → Operands m.core p → HoldsG4 m.core.params p bus
-  keeps_g4 range none o h lane l = record {
+  keeps_high : IsInRange m.core.params → SmallCore m.core → Operands m.core p → register_continues p bus ≡ true → (lane bit : ℕ) → lane < m.core.params.num_rs → odd_bit m.core.params lane ≡ Some bit → has_flag p.last.register_rs_valid bit ≡ true
+      → high_half (lane_value bus lane) ≡ high_half (lane_value p.last lane)
+  keeps_high range words o h lane bit l b f =
+      let s = o.shown (both-true (register_waits p.last) _ h).0 in
+      let x = continued s h in
+      let small : lane < 3 = omega (arith, l, range.num_rs) in
+      let flags = flags_of s.before s.entry in
+      let set : option_map_or (has_flag flags) (odd_bit s.before.params lane) false ≡ true =
+      ap (λ q. option_map_or (has_flag flags) (odd_bit q lane) false) s.params_are ∙ ap (λ z. option_map_or (has_flag flags) z false) b ∙ ap (λ n. has_flag n bit) (sym s.flags) ∙ f in
+      let here = set-here s.before.params (λ n h. is_here (half_of s.before s.entry n h)) (subst IsInRange (sym s.params_are) range) lane High small set in
+      here-some (half_of s.before s.entry lane High) (high_half (lane_value bus lane) ≡ high_half (lane_value p.last lane)) here (λ v q.
+      ap high_half (shown-lanes x.one x.there lane small)
+      ∙ high-of (value_or_zero (half_of m.core x.one.entry lane Low)) (value_or_zero (half_of m.core x.one.entry lane High)) (half-small m.core x.one.entry words lane Low)
+      ∙ ap value_or_zero (x.grows lane High v q) ∙ ap value_or_zero (sym q)
+      ∙ sym (high-of (value_or_zero (half_of s.before s.entry lane Low)) (value_or_zero (half_of s.before s.entry lane High)) (s.small lane Low))
+      ∙ ap high_half (sym (s.lanes lane small)))
+
+  pub keeps_g4 : IsInRange m.core.params → SmallCore m.core → Operands m.core p → HoldsG4 m.core.params p bus
+  keeps_g4 range words o h lane l = record {
     low = keeps_low range o h lane l;
-    high = λ bit b f. absurd (no-bit bit b);
+    high = λ bit b f. keeps_high range words o h lane bit l b f;
   }
-    where
-      no-bit : (bit : ℕ) → odd_bit m.core.params lane ≡ Some bit → ⊥
-      no-bit bit b =
-          go (nat_lt lane m.core.params.dual_read) (ap (nat_lt lane) none) b
-        where
-          go : (t : Bool) → t ≡ nat_lt lane 0 → (if t then Some (even_bit m.core.params lane + 1) else None) ≡ Some bit → ⊥
-          go true q z = absurd (let l = lt_in lane 0 (sym q) in omega arith)
-          go false q z = cc

@@ -32,6 +32,7 @@ use Rattle.ahead_laws.proofs.Writes.{count-after}
 use Rattle.trace_laws.proofs.CoreChosen.{Chosen}
 use Rattle.trace_laws.proofs.CoreRules.{some_case}
 use Rattle.trace_laws.proofs.Shown.{Grows, Shown, Operands, PresentedAt, presented_at, shown-flags, shown-lanes}
+use Rattle.trace_laws.proofs.SmallCore.{SmallCore, half-small}
 use Rattle.trace_laws.proofs.Stable.{Known, fitted, cycled}
 use Rattle.trace_laws.proofs.Views.{has, Stays}
 use Rattle.trace_laws.proofs.Words.{Worded, words}
@@ -66,7 +67,7 @@ and-not true true true false h k = refl
 and-not true true false false h k = refl
 and-not false b b' c h k = cc
 
-module _ (hart : ℕ) (m : Machines) (p : Past) (k : Paired hart m) (c : Chosen m.core.params.split m.core.flight (choices m.core)) (answer : (pc word : ℕ) → ℕ) (kn : Known m.core (choices m.core) (core_bus_at m hart)) where
+module _ (hart : ℕ) (m : Machines) (p : Past) (k : Paired hart m) (c : Chosen m.core.params.split m.core.flight (choices m.core)) (answer : (pc word : ℕ) → ℕ) (kn : Known m.core (choices m.core) (core_bus_at m hart)) (values : SmallCore m.core) where
   abbrev bus : Bus
   bus = bus_at m hart
 
@@ -170,6 +171,7 @@ module _ (hart : ℕ) (m : Machines) (p : Past) (k : Paired hart m) (c : Chosen 
         params_are = refl;
         flags = shown-flags hart m p k c x pr;
         lanes = shown-lanes hart m p k c x pr;
+        small = half-small w x.entry values;
         stays = Each-both (λ y. Fixed (Identified x.entry.seq x.entry.id) y × Worded x.entry.seq x.entry.word y) (λ y. y.seq ≡ x.entry.seq → has x.entry.seq after.flight ≡ true)
             (λ y. is_unknown y ≡ true → y.id ≡ bus.register_id → Grows w x.entry after y) after.flight
             (λ y a b u i. let s = a.0 u (i ∙ id) in grows x pr (not_in bus.register_ready both.1) st y s (a.1 s) (b s))

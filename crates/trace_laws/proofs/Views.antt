@@ -139,7 +139,7 @@ older-map s f (x ∷ xs) k = ap (λ n. if n == s then [] else f x ∷ older_than
     go true = refl
     go false = refl
 
-Each-older : (P : Entry → Type 0) (s : ℕ) (es : List Entry) → Each P es → Each P (older_than s es)
+pub Each-older : (P : Entry → Type 0) (s : ℕ) (es : List Entry) → Each P es → Each P (older_than s es)
 Each-older P s [] h = tt
 Each-older P s (x ∷ xs) h = go (has_seq s x) (Each-older P s xs h.1)
   where

@@ -12,7 +12,7 @@ ghost use Rattle.cycle_spec.specs.State.{new_engine};
 ghost use Rattle.cycle_spec.specs.Cycle.{Machines, bus_at};
 ghost use Rattle.cycle_spec.specs.Run.{Setup, Meaning, progress_of};
 ghost use Rattle.trace_laws.specs.Driven.{driven_buses};
-ghost use Rattle.trace_laws.specs.Sessions.{Session, HoldsBut, is_stable_halves};
+ghost use Rattle.trace_laws.specs.Sessions.{HasBytes, Session};
 
 /// Beside any core that keeps the rules of its side in each cycle, the engine keeps those of its
 /// own in each cycle, for all harts and in both profiles.
@@ -25,25 +25,17 @@ pub fn engine_law()
 
 /// Each session of core and engine is legal, with its next cycle, be it the one that stops the
 /// machine: in both profiles, for every window and script, whatever a predictor answers, where
-/// drains begin and end, and where harts take turns. Where register pairs may be read (X_DUALREAD),
-/// every rule but G4 is known to hold.
+/// drains begin and end, and where harts take turns.
 pub fn session_law()
-    ensures legal { (setup : Setup) (hart : ℕ) (m : Machines) (session : List Bus) →
-        IsInRange setup.params → setup.params.dual_read ≡ 0 → Session setup hart m session →
-        IsLegalSession setup.params (bus_at m hart ∷ session) }
-    ensures pairs { (setup : Setup) (hart : ℕ) (m : Machines) (session : List Bus) →
+    ensures { (setup : Setup) (hart : ℕ) (m : Machines) (session : List Bus) →
         IsInRange setup.params → Session setup hart m session →
-        EachCycle (HoldsBut is_stable_halves setup.params) (bus_at m hart ∷ session) }
+        IsLegalSession setup.params (bus_at m hart ∷ session) }
 {}
 
 /// So is each run, for every predictor: up to a stop, or to the end of its budget and of the drain
 /// behind it.
 pub fn run_law<P>()
-    ensures legal { (meaning : Meaning P) (setup : Setup) (predictor : P) →
-        IsInRange setup.params → setup.params.dual_read ≡ 0 →
+    ensures { (meaning : Meaning P) (setup : Setup) (predictor : P) →
+        IsInRange setup.params → HasBytes setup.memory →
         IsLegalSession setup.params (progress_of meaning setup predictor).buses }
-    ensures pairs { (meaning : Meaning P) (setup : Setup) (predictor : P) →
-        IsInRange setup.params →
-        EachCycle (HoldsBut is_stable_halves setup.params)
-        (progress_of meaning setup predictor).buses }
 {}

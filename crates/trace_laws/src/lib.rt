@@ -9,7 +9,9 @@
 //! (`proofs/EngineTold.antt`), and each step of a cycle keeps this. The live entries of the core
 //! are the live uses of the engine (`cycle_paired`), so the buses tell the same of them
 //! (`proofs/CoreRules.antt`). What a register transaction shows stays because a register that is
-//! there for an instruction in flight stays there (`proofs/Views.antt`).
+//! there for an instruction in flight stays there (`proofs/Views.antt`); and each half of a lane
+//! shows through what the other half is, since registers, and what entries and results write to
+//! them, are words (`proofs/SmallCore.antt`, `proofs/SmallEngine.antt`).
 #![tactic(auto)]
 
 mod laws;

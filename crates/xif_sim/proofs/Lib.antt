@@ -1,4 +1,5 @@
 pub mod Extends
+mod Faithful
 mod Turned
 mod Whole
 mod Widths

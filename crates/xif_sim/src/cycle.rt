@@ -1,11 +1,15 @@
 //! A cycle of core and coprocessors on one bus.
-ghost use Rattle.std.specs.Prelude.{◌≡◌, ◌<◌, ◌^◌, IsTrue};
+ghost use Rattle.std.specs.Prelude.{◌≡◌, ◌<◌, ◌^◌, ◌∷◌, List, None, IsTrue};
+ghost use Rattle.xif_base.specs.Params.{IsInRange};
 ghost use Rattle.xif_signals.specs.Bus.{FitsWidths};
 ghost use Rattle.cycle_spec.specs.Choices.{choices};
 ghost use Rattle.cycle_spec.specs.Core.{learnt};
 ghost use Rattle.cycle_spec.specs.Counts.{IsCountedBy};
 ghost use Rattle.cycle_spec.specs.Cycle as spec;
 ghost use Rattle.cycle_spec.specs.Cycle.{Machines};
+ghost use Rattle.cycle_spec.specs.Run.{Setup};
+ghost use Rattle.xif_session.specs.Legal.{IsLegalSession};
+ghost use Rattle.trace_laws.specs.Sessions.{Session};
 
 use coproc_engine::Engine;
 use cycle_spec::CycleLog;
@@ -44,6 +48,16 @@ pub fn one_cycle<P: Predictor>(
     ensures commit_hart { IsTrue (result.0).commit_valid → (result.0).commit_hartid ≡ hart }
     ensures fits { FitsWidths (core.old).params result.0 }
     ensures counted { IsCountedBy (engine.new).cycle core.new }
+
+    // Each session goes on by the cycle, legal: also where harts take turns, and with the cycle that
+    // stops the core. Where none stops it, core and engine are those of the longer session.
+    ensures legal { (setup : Setup) (session : List Bus) → IsInRange setup.params →
+        Session setup hart (record { core = core.old; engine = engine.old }) session →
+        IsLegalSession setup.params (result.0 ∷ session) }
+    ensures session { (setup : Setup) (session : List Bus) → (choices core.old).stop ≡ None →
+        Session setup hart (record { core = core.old; engine = engine.old }) session →
+        Session setup hart (record { core = core.new; engine = engine.new })
+        (result.0 ∷ session) }
 {
     let driven = core.drive();
     let cpu = for_hart(hart, driven);

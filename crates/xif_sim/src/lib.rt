@@ -7,7 +7,9 @@
 //!
 //! What a cycle and a run are is defined in the crate `cycle_spec` (`Cycle` and `Run` there). Here
 //! `specs/Setup.antt` says which setups are lawful, and `specs/Simulating.antt` what a `Simulation`
-//! has told of a run and what is to come.
+//! has told of a run and what is to come. What `simulate` says of every run besides, that it leaves
+//! what the in-order machine leaves, that its signals are legal and that it keeps pace, is defined
+//! in the crate `run_laws` (`Headline`), whose law it rests on.
 #![tactic(auto)]
 
 mod buses;

@@ -4,6 +4,7 @@ ghost use Rattle.std.specs.Option.{option_to_list};
 ghost use Rattle.xif_signals.specs.Bus.{FitsWidths};
 ghost use Rattle.cycle_spec.specs.Engine.{units_of};
 ghost use Rattle.cycle_spec.specs.Run.{run_of, end_by};
+ghost use Rattle.run_laws.specs.Headline.{LeavesInOrder, HasLegalSignals, KeepsPace};
 ghost use Rattle.xif_sim.specs.Setup.{IsLawfulSetup};
 ghost use Rattle.xif_sim.specs.Simulating.{meaning};
 
@@ -64,6 +65,23 @@ pub fn simulate<P: Predictor>(
     setup: &Setup,
     predictor: &mut P,
 ) -> Result<Run, NoMemory>
+    requires { IsLawfulSetup setup.now }
+    ensures run { IfOk result
+        (λ run. run ≡ run_of (meaning P.answer P.after) setup.now predictor.old) }
+    ensures fits { IfOk result (λ run. All (FitsWidths setup.now.params) run.buses) }
+
+    // It leaves what the in-order machine leaves after as many instructions.
+    ensures refines { IfOk result (λ run. LeavesInOrder setup.now run) }
+    // In each cycle its signals keep every rule of the interface.
+    ensures legal { IfOk result (λ run. HasLegalSignals setup.now run) }
+    ensures paced { IfOk result (λ run. KeepsPace setup.now run) }
+{
+    setup.has_bytes();
+    whole_run(alloc, setup, predictor)
+}
+
+/// The run, by its definition alone.
+fn whole_run<P: Predictor>(alloc: Global, setup: &Setup, predictor: &mut P) -> Result<Run, NoMemory>
     requires { IsLawfulSetup setup.now }
     ensures run { IfOk result
         (λ run. run ≡ run_of (meaning P.answer P.after) setup.now predictor.old) }

@@ -1,4 +1,6 @@
 //! What a run is made of.
+ghost use Rattle.std.specs.Prelude.{◌<◌, All};
+ghost use Rattle.trace_laws.specs.Sessions.{HasBytes};
 
 use coproc_config::Set;
 use std::marker::Model;
@@ -36,3 +38,17 @@ impl Model for Setup {
       entry = s.entry;
     } };
 }
+
+impl Setup {
+    /// Does nothing: its contract says that the numbers in the memory are bytes, as their type has
+    /// it.
+    pub fn has_bytes(&self)
+        ensures { HasBytes (self.now).memory }
+    {
+        bytes_fit(self.memory.bytes());
+    }
+}
+
+fn bytes_fit(bytes: &[u8])
+    ensures { All (λ byte. byte < 256) bytes.now }
+{}

@@ -1,9 +1,10 @@
-use Rattle.std.proofs.Common.{◌≡◌, ◌<◌, ap, subst, sym, ◌∙◌}
+use Rattle.std.proofs.Common.{◌≡◌, ◌<◌, ap, subst, sym, ◌∙◌, rules}
 use Rattle.xif_base.specs.declared.params.Params.{Params}
 use Rattle.xif_base.specs.Params.{IsInRange}
 use Rattle.xif_signals.specs.Bus.{join_of, FitsWidths}
-use Rattle.cycle_spec.specs.Cycle.{for_hart}
+use Rattle.cycle_spec.specs.Cycle.{for_hart, Machines, bus_at, core_next, engine_next}
 use Rattle.coproc_engine.specs.Drives.{FitsCopOut}
+use Rattle.xif_sim.proofs.Faithful.{legal-cycle, session-cycle}
 use Rattle.xif_sim.proofs.Widths.{bus-fits}
 use Rattle.xif_sim.proofs.cycle.one_cycle.Goals as goal
 
@@ -17,3 +18,18 @@ returns-clause-fits g c =
     let joined : c.join-2.result ≡ join_of (for_hart c.args.hart c.drive-driven.result) c.drive-cop.result c.accepts-input.result =
     c.join-2.ensures ∙ ap (λ cpu. join_of cpu c.drive-cop.result c.accepts-input.result) c.for_hart-cpu.ensures in
     subst (FitsWidths p) (sym joined) (bus-fits p c.args.hart c.drive-driven.result c.drive-cop.result c.accepts-input.result range hart c.drive-driven.ensures.fits cop)
+
+pub returns-clause-legal : goal.returns-clause-legal
+returns-clause-legal g c = λ setup session range x.
+    let m : Machines = record { core = c.args.core.now; engine = c.args.engine.now } in
+    let bus : c.join-2.result ≡ bus_at m c.args.hart = search rules in
+    legal-cycle setup c.args.hart m session c.join-2.result bus range x
+
+pub returns-clause-session : goal.returns-clause-session
+returns-clause-session g c = λ setup session none x.
+    let m : Machines = record { core = c.args.core.now; engine = c.args.engine.now } in
+    let answer = g.P.Predictor.answer c.args.predictor.now in
+    let bus : c.join-2.result ≡ bus_at m c.args.hart = search rules in
+    let core : c.clock-log.new.self ≡ core_next m c.args.hart answer = search rules in
+    let engine : c.clock.new.self ≡ engine_next m c.args.hart = search rules in
+    session-cycle setup c.args.hart m session answer c.join-2.result c.clock-log.new.self c.clock.new.self bus core engine none x

@@ -1,7 +1,7 @@
 use Rattle.std.proofs.Common.{◌≡◌, All, reverse, filter_map}
 use Rattle.xif_signals.specs.Bus.{FitsWidths}
 use Rattle.xif_sim.specs.Simulating.{meaning, cycles_left, Tells}
-use Rattle.xif_sim.proofs.run.simulate.Given as goal
+use Rattle.xif_sim.proofs.run.whole_run.Given as goal
 
 abbrev pub invariant-loop-bus : goal.invariant-loop-bus
 invariant-loop-bus g l = record {

@@ -1,0 +1,13 @@
+//! The headline: what holds of every run, in one record.
+//!
+//! A run leaves what the in-order machine leaves, its signals are legal by the rules of the judge,
+//! and it keeps pace. `specs/Headline.antt` says so of a run alone, and `every_run_is_faithful` of
+//! every run of `cycle_spec`: for every predictor, and for every setup that `CanRun` allows.
+//!
+//! It joins the laws of `cycle_refines`, `trace_laws` and `pace_laws`. In place of a fact about what
+//! is in flight at the end of a run it has that nothing is, by the law of the drain.
+#![tactic(auto)]
+
+mod laws;
+
+pub use laws::every_run_is_faithful;
