@@ -16,9 +16,9 @@ ghost use Rattle.command_laws.specs.Commands.{HoldBytes, SaysCycles, Runs, RunsJ
 /// than `judge` reads is refused as too big.
 pub fn trace_is_judged_legal()
     ensures { (run_words judge_words : List (String Global)) (before after : Files) (job : Job)
-        (answer : Answer) → HoldBytes before →
-        Runs run_words before job answer → KeepsTrace before after job answer →
-        Judges judge_words after job → IsJudgedLegal judge_words after job.trace answer.printed }
+        (answer : Answer) → HoldBytes before → Runs run_words before job answer →
+        KeepsTrace before after job answer → Judges judge_words after job →
+        IsJudgedLegal judge_words after job.trace answer.printed }
 {}
 
 /// So a call of `judge` that ends behind a call of `run` that is done prints `legal cycles=N`, with

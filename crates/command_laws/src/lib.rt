@@ -6,13 +6,14 @@
 //! `judge_after_run_prints_legal` says the same of two calls of the program. `specs/Commands.antt`
 //! has what they say of the two calls.
 //!
-//! It rests on four laws: core and engine keep the rules (`trace_laws`), what they show fits the
-//! widths of the signals (`width_laws`), so the text of the waveform has samples that read as the
-//! buses again, and what is judged of the text is what the rules say of the buses
-//! (`waveform_laws`). In `proofs/`, `Jobs` has what holds of each job that is read, `Images` that a
-//! memory holds bytes, `Lengths` that a waveform is longer than the run, `Runs` the run of a job,
-//! `Verdicts` what `judge` means behind it, and
-//! `Calls` what the two calls print.
+//! It rests on four laws: core and engine keep the rules (`trace_laws`); what they show fits the
+//! widths of the signals (`width_laws`); so the text of the waveform has samples that read as the
+//! buses again; and what is judged of the text is what the rules say of the buses
+//! (`waveform_laws`).
+//!
+//! In `proofs/`, `Jobs` has what holds of each job that is read, `Images` that a memory holds bytes,
+//! `Lengths` that a waveform is longer than its run, `Runs` the run of a job, `Verdicts` what
+//! `judge` means behind it, and `Calls` what the two calls print.
 #![tactic(auto)]
 
 mod laws;
