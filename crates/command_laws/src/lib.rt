@@ -11,7 +11,7 @@
 //! buses again; and what is judged of the text is what the rules say of the buses
 //! (`waveform_laws`).
 //!
-//! In `proofs/`, `Jobs` has what holds of each job that is read, `Images` that a memory holds bytes,
+//! In `proofs/`, `Jobs` has what holds of each job that is read, `Images` that a memory has bytes,
 //! `Lengths` that a waveform is longer than its run, `Runs` the run of a job, `Verdicts` what
 //! `judge` means behind it, and `Calls` what the two calls print.
 #![tactic(auto)]
