@@ -1,24 +1,20 @@
 -- What a call of `judge` prints behind a call of `run`.
-use Rattle.std.proofs.Common.{◌≡◌, ◌<◌, ◌≤◌, ℕ, Bool, true, false, List, length, Option, Some, Result, Ok, Err, nat_le, refl, sym, ap, ◌∙◌, subst, arith}
+use Rattle.std.proofs.Common.{◌≡◌, ℕ, List, Option, Some, Result, Ok, sym, ap, ◌∙◌, subst}
 use Rattle.std.specs.Prelude.{String}
 use Rattle.std.specs.declared.alloc.Global.{Global}
 use Rattle.std.specs.FinMap.{get}
-use Rattle.std.proofs.lemmas.Bool.Decides.{nat_tests}
 use Rattle.xif_base.specs.Files.{Files}
-use Rattle.xif_base.specs.declared.outside.Which.TheVariants as which
 use Rattle.xif_targets.specs.Targets.{written}
 use Rattle.xif_job.specs.declared.job.Job.{Job}
 use Rattle.xif_cli.specs.declared.answer.End.{End}
 use Rattle.xif_cli.specs.declared.answer.End.TheVariants.{Done}
 use Rattle.xif_cli.specs.declared.status.Status.{Status}
-use Rattle.xif_cli.specs.declared.status.Status.TheVariants.{TooBig}
 use Rattle.xif_cli.specs.Ending.{texts_of, Means}
 use Rattle.xif_cli.specs.Judged.{legal_answer}
-use Rattle.xif_cli.specs.Limits.{longest_waveform}
 use Rattle.xif_cli.specs.Outcome.{Lookup, Answer, found, command_outcome}
 use Rattle.xif_cli.specs.Verdict.{legal_line}
 use Rattle.xif_cli.proofs.Forms.{one_form}
-use Rattle.command_laws.specs.Commands.{HoldBytes, SaysCycles, Runs, RunsJob, Calls, Judges, IsJudgedLegal}
+use Rattle.command_laws.specs.Commands.{HoldBytes, SaysCycles, Runs, RunsJob, Calls, Judges}
 use Rattle.command_laws.proofs.Verdicts.{judged}
 
 -- words mean one thing
@@ -31,9 +27,6 @@ meant answer = Ok answer
 
 same-answer : (answer other : Answer) → meant answer ≡ meant other → answer ≡ other
 same-answer answer other h = cc
-
-not-refused : (answer : Answer) (status : Status) → meant answer ≡ Err status → ⊥
-not-refused answer status h = cc
 
 abbrev some-files : Files → Option Files
 some-files files = Some files
@@ -55,22 +48,13 @@ prints run_words judge_words before left later after job end report verdict byte
     let report_is : report ≡ ran.answer.printed = same-text report ran.answer.printed ran.output in
     let r : Runs run_words before job ran.answer = record { name = runs.name; command = runs.command; is_job = runs.is_job; means = ran.is_meant } in
     let j = judged run_words judge_words before later job ran.answer bytes r (same ∙ ap (λ files. get files job.trace) left_is) judges in
-    go j report_is (nat_le (length j.text) longest_waveform) refl
-  where
-    go : (j : IsJudgedLegal judge_words later job.trace ran.answer.printed) → report ≡ ran.answer.printed → (t : Bool) → nat_le (length j.text) longest_waveform ≡ t
-        → (end ≡ Done) × ((cycles : ℕ) × (SaysCycles cycles report × (verdict ≡ legal_line cycles)))
-    go j report_is true e =
-        let fits : length j.text ≤ longest_waveform = grind (arith, nat_tests) in
-        let is : called.answer ≡ legal_answer j.cycles = same-answer called.answer (legal_answer j.cycles) (one-meaning judge_words (found later) (Ok called.answer) (Ok (legal_answer j.cycles)) called.is_meant (j.legal fits)) in (
-          sym called.ends ∙ ap (λ (a : Answer). a.end) is,
-          (
-            j.cycles,
-            (
-              subst (SaysCycles j.cycles) (sym report_is) j.says,
-              same-text verdict called.answer.printed called.output ∙ ap (λ (a : Answer). a.printed) is,
-            ),
-          ),
-        )
-    go j report_is false e =
-        let beyond : longest_waveform < length j.text = grind (arith, nat_tests) in
-        absurd (not-refused called.answer (TooBig which.Waveform) (one-meaning judge_words (found later) (Ok called.answer) (Err (TooBig which.Waveform)) called.is_meant (j.too_big beyond)))
+    let is : called.answer ≡ legal_answer j.cycles = same-answer called.answer (legal_answer j.cycles) (one-meaning judge_words (found later) (Ok called.answer) (Ok (legal_answer j.cycles)) called.is_meant j.legal) in (
+      sym called.ends ∙ ap (λ (a : Answer). a.end) is,
+      (
+        j.cycles,
+        (
+          subst (SaysCycles j.cycles) (sym report_is) j.says,
+          same-text verdict called.answer.printed called.output ∙ ap (λ (a : Answer). a.printed) is,
+        ),
+      ),
+    )

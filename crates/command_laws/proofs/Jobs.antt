@@ -1,6 +1,6 @@
 -- What holds of a job that is read: its set is lawful, there is an id for each instruction in flight,
--- and its log is another file than its trace. Without a table `map` its map is the default one.
-use Rattle.std.proofs.Common.{◌≡◌, ◌≤◌, ◌^◌, ℕ, Bool, true, false, not, if◌then◌else◌, List, Option, Some, None, Ok, Err, pos, negsuc, min, refl, sym, ap, ◌∙◌, subst, arith}
+-- window, budget and delays are within their ranges, and its log is another file than its trace. Without a table `map` its map is the default one.
+use Rattle.std.proofs.Common.{◌≡◌, ◌≤◌, ◌^◌, ℕ, Bool, true, false, not, if◌then◌else◌, List, Option, Some, None, Ok, Err, pos, negsuc, min, refl, sym, ap, ◌∙◌, subst, arith, ◌++◌, max, length, nat_lt, ◌==◌, ◌∷◌, []}
 use Rattle.std.specs.Prelude.{Result}
 use Rattle.std.specs.Option.{ok_or}
 use Rattle.std.specs.Str.{bytes_eq}
@@ -11,7 +11,11 @@ use Rattle.xif_base.specs.Checks.{first_failing}
 use Rattle.coproc_config.specs.declared.check.SetFault.{SetFault}
 use Rattle.coproc_config.specs.Set.{UnitTable}
 use Rattle.coproc_config.specs.Check.{IsLawful, checks}
-use Rattle.xif_drive.specs.Scripts.{script_fault, checked_by}
+use Rattle.std.specs.List.{fold}
+use Rattle.std.specs.Option.{option_or}
+use Rattle.xif_drive.specs.declared.script.ScriptFault.{ScriptFault}
+use Rattle.xif_drive.specs.declared.script.ScriptCause.TheVariants.{EmptyList, LongList, BigDelay}
+use Rattle.xif_drive.specs.Scripts.{Lists, longest, greatest_delay, greatest, fault_when, list_fault, script_fault, checked_by, largest_of}
 use Rattle.xif_sampler.specs.Places.{defaults}
 use Rattle.xif_job.specs.declared.field.Field.{Field}
 use Rattle.xif_job.specs.declared.field.Field.TheVariants as fields
@@ -88,6 +92,79 @@ unfolding core_of
 core-ids id_width top some =
     behind (λ core. core.window ≤ 2 ^ id_width) (table_in fields.CoreWindow core_names (top at "core")) _ (λ t _. search (behind-window, behind, given) depth 10)
 
+behind-most : {B : Type 0} (P : B → Type 0) (id_width : ℕ) (absent : _) (found : Option Data) (f : ℕ → Result B JobFault) → 3 ≤ id_width → where_absent {A = ℕ} fields.CoreWindow absent ≡ Ok 8
+    → ((n : ℕ) → n ≤ 32 → Gives P (f n)) → Gives P (number_in fields.CoreWindow (1 to min 32 (2 ^ id_width)) absent found >>= f)
+behind-most P id_width absent found f some e k =
+    behind P (number_in fields.CoreWindow (1 to min 32 (2 ^ id_width)) absent found) f (λ n read. k n
+    (let l = number-below fields.CoreWindow (min 32 (2 ^ id_width)) 8 absent found e (eight id_width some) n read in omega (arith, l)))
+
+core-most : (id_width : ℕ) (top : Members) → 3 ≤ id_width → Gives (λ core. core.window ≤ 32) (core_of id_width top)
+unfolding core_of
+core-most id_width top some =
+    behind (λ core. core.window ≤ 32) (table_in fields.CoreWindow core_names (top at "core")) _ (λ t _. search (behind-most, behind, given) depth 10)
+
+behind-budget : {B : Type 0} (P : B → Type 0) (absent : _) (found : Option Data) (f : ℕ → Result B JobFault) → where_absent {A = ℕ} fields.CoreBudget absent ≡ Ok 10000
+    → ((n : ℕ) → n ≤ 200000 → Gives P (f n)) → Gives P (number_in fields.CoreBudget (1 to 200000) absent found >>= f)
+behind-budget P absent found f e k =
+    behind P (number_in fields.CoreBudget (1 to 200000) absent found) f (λ n read. k n
+    (number-below fields.CoreBudget 200000 10000 absent found e (omega arith) n read))
+
+core-budget : (id_width : ℕ) (top : Members) → Gives (λ core. core.budget ≤ 200000) (core_of id_width top)
+unfolding core_of
+core-budget id_width top =
+    behind (λ core. core.budget ≤ 200000) (table_in fields.CoreWindow core_names (top at "core")) _ (λ t _. search (behind-budget, behind, given) depth 10)
+
+-- ---- the script
+
+fold-rises : (m : ℕ) (xs : List ℕ) → m ≤ fold max m xs
+fold-rises m [] = omega arith
+fold-rises m (x ∷ xs) = let h = fold-rises (max m x) xs in omega (arith, h)
+
+fold-within : (m n most : ℕ) (xs : List ℕ) → m ≤ most → fold max n xs ≤ most → fold max m xs ≤ most
+fold-within m n most [] h k = h
+fold-within m n most (x ∷ xs) h k =
+    let low = fold-rises (max n x) xs in
+    fold-within (max m x) (max n x) most xs (omega (arith, h, k, low)) k
+
+fold-joined : (m : ℕ) (xs ys : List ℕ) → fold max m (xs ++ ys) ≡ fold max (fold max m xs) ys
+fold-joined m [] ys = refl
+fold-joined m (x ∷ xs) ys = fold-joined (max m x) xs ys
+
+greatest-joined : (most : ℕ) (xs ys : List ℕ) → greatest xs ≤ most → greatest ys ≤ most → greatest (xs ++ ys) ≤ most
+greatest-joined most xs ys h k = subst (λ n. n ≤ most) (sym (fold-joined 0 xs ys)) (fold-within (fold max 0 xs) 0 most ys h k)
+
+no-fault : (a b : Option ScriptFault) → option_or a b ≡ None → (a ≡ None) × (b ≡ None)
+no-fault None b h = (refl, h)
+no-fault (Some x) b h = cc
+
+list-small : (delays : List ℕ) (number : ℕ) → list_fault delays number ≡ None → greatest delays ≤ 200
+list-small delays number h =
+    let some = no-fault (fault_when (length delays == 0) EmptyList number) _ h in
+    let short = no-fault (fault_when (nat_lt longest (length delays)) LongList number) _ some.1 in
+    go (nat_lt greatest_delay (greatest delays)) refl short.1
+  where
+    go : (t : Bool) → nat_lt greatest_delay (greatest delays) ≡ t → fault_when t BigDelay number ≡ None → greatest delays ≤ 200
+    go true e k = cc
+    go false e k = grind (arith, nat_tests)
+
+script-lawful : (o : Option ScriptFault) (x : Unit) → drivable (checked_by o) ≡ Ok x → o ≡ None
+script-lawful None x h = refl
+script-lawful (Some fault) x h = cc
+
+script-small : (s : Lists) → script_fault s ≡ None → largest_of s ≤ 200
+script-small s h =
+    let a = no-fault (list_fault s.issue 0) _ h in
+    let b = no-fault (list_fault s.register 1) _ a.1 in
+    let c = no-fault (list_fault s.operand 2) _ b.1 in
+    let d = no-fault (list_fault s.result 3) (list_fault s.take 4) c.1 in
+    greatest-joined 200 (s.issue ++ s.register ++ s.operand ++ s.result) s.take
+    (greatest-joined 200 (s.issue ++ s.register ++ s.operand) s.result
+    (greatest-joined 200 (s.issue ++ s.register) s.operand
+    (greatest-joined 200 s.issue s.register (list-small s.issue 0 a.0) (list-small s.register 1 b.0))
+    (list-small s.operand 2 c.0))
+    (list-small s.result 3 d.0))
+    (list-small s.take 4 d.1)
+
 -- ---- the set
 
 set-lawful : (set : List UnitTable) (answer : Result Unit SetFault) → first_failing (checks set) ≡ answer → (x : Unit) → lawful answer ≡ Ok x → IsLawful set
@@ -117,10 +194,14 @@ trace-apart file top =
 pub record IsRead (job : Job) : Type 0 where
   pub set : IsLawful job.set
   pub ids : HasIds job.params.id_width job.window
+  pub most : 3 ≤ job.params.id_width → job.window ≤ 32
+  pub budget : job.budget ≤ 200000
+  pub delays : largest_of job.script ≤ 200
   pub apart : bytes_eq job.log job.trace ≡ false
 
-made : (job : Job) → IsLawful job.set → HasIds job.params.id_width job.window → bytes_eq job.log job.trace ≡ false → Gives IsRead (ok job)
-made job set ids apart = given IsRead job (record { set = set; ids = ids; apart = apart })
+made : (job : Job) → IsLawful job.set → HasIds job.params.id_width job.window → (3 ≤ job.params.id_width → job.window ≤ 32) → job.budget ≤ 200000
+    → largest_of job.script ≤ 200 → bytes_eq job.log job.trace ≡ false → Gives IsRead (ok job)
+made job set ids most budget delays apart = given IsRead job (record { set = set; ids = ids; most = most; budget = budget; delays = delays; apart = apart })
 
 pub job_read : (needs_image : Bool) (bytes : List ℕ) (job : Job) → read_of needs_image bytes ≡ Ok job → IsRead job
 unfolding job_of
@@ -136,9 +217,12 @@ job_read needs_image bytes =
     behind IsRead (trace_of image.source.file top) _ (λ trace trace_read.
     behind IsRead (map_of params top) _ (λ map _.
     behind IsRead (lawful (first_failing (checks set))) _ (λ x checked.
-    behind IsRead (drivable (checked_by (script_fault script))) _ (λ _ _.
+    behind IsRead (drivable (checked_by (script_fault script))) _ (λ y driven.
     made _ (set-lawful set (first_failing (checks set)) refl x checked)
     (λ some. core-ids params.id_width top some core core_read)
+    (λ some. core-most params.id_width top some core core_read)
+    (core-budget params.id_width top core core_read)
+    (script-small script (script-lawful (script_fault script) y driven))
     (trace-apart image.source.file top trace trace_read)))))))))))))
 
 -- ---- a job without a table `map`

@@ -1,6 +1,7 @@
 pub mod Jobs
 pub mod Images
-pub mod Lengths
+pub mod Sizes
+pub mod Cycles
 pub mod Runs
 pub mod Verdicts
 pub mod Calls

@@ -1,5 +1,6 @@
--- The run of a job that is read, with its image: its buses fit their widths, and are a legal session.
-use Rattle.std.proofs.Common.{◌≡◌, ℕ, Bool, true, false, if◌then◌else◌, List, [], ◌∷◌, length, reverse, replicate, Option, Some, None, Result, Ok, Err, nat_le, refl, sym, ap, subst}
+-- The run of a job that is read, with its image: its buses fit their widths, and are a legal session
+-- of no more than 252,480 cycles.
+use Rattle.std.proofs.Common.{◌≡◌, ℕ, Bool, true, false, if◌then◌else◌, List, [], ◌∷◌, length, reverse, replicate, Option, Some, None, Result, Ok, Err, nat_le, refl, sym, ap, subst, arith, ◌+◌, ◌*◌, ◌≤◌}
 use Rattle.std.specs.List.{All}
 use Rattle.std.proofs.lemmas.List.{reverse-reverse}
 use Rattle.std.proofs.lemmas.List.Elements.{All-nil, All-cons}
@@ -10,7 +11,8 @@ use Rattle.xif_base.specs.Params.{IsInRange}
 use Rattle.xif_image.specs.Image.{Placement}
 use Rattle.xif_signals.specs.Bus.{FitsWidths}
 use Rattle.xif_session.specs.Legal.{IsLegalSession}
-use Rattle.cycle_spec.specs.Run.{Setup, Meaning, Run, progress_of, run_of}
+use Rattle.std.proofs.Math.Nat.{mul-le-mul}
+use Rattle.cycle_spec.specs.Run.{Setup, Meaning, Run, progress_of, run_of, drain_limit}
 use Rattle.trace_laws.proofs.Runs.{run-legal}
 use Rattle.width_laws.specs.Ranges.{HasRanges}
 use Rattle.width_laws.proofs.Memories.{IsByte}
@@ -28,6 +30,8 @@ use Rattle.xif_cli.specs.Outcome.{Lookup, found, ◌>>=◌, file_in, or_status, 
 use Rattle.xif_cli.specs.Simulated.{setup_of, never, backward, bimodal, listed, run_by}
 use Rattle.xif_cli.proofs.Jobs.{job_in_range}
 use Rattle.command_laws.specs.Commands.{HoldBytes}
+use Rattle.xif_drive.specs.Scripts.{largest_of}
+use Rattle.command_laws.proofs.Cycles.{run-few}
 use Rattle.command_laws.proofs.Jobs.{IsRead, job_read}
 use Rattle.command_laws.proofs.Images.{HasByte, GivesBytes, raw-bytes, text-bytes, placed-bytes, zero-bytes}
 
@@ -36,11 +40,13 @@ use Rattle.command_laws.proofs.Images.{HasByte, GivesBytes, raw-bytes, text-byte
 pub record IsGood (setup : Setup) (run : Run) : Type 0 where
   pub fits : All (FitsWidths setup.params) run.buses
   pub legal : IsLegalSession setup.params (reverse run.buses)
+  pub few : length run.buses ≤ drain_limit setup + setup.budget
 
 good-run : {P : Type 0} (meaning : Meaning P) (setup : Setup) (predictor : P) → HasRanges setup → IsGood setup (run_of meaning setup predictor)
 good-run meaning setup predictor r = record {
   fits = widths meaning setup predictor r;
   legal = subst (IsLegalSession setup.params) (sym (reverse-reverse (progress_of meaning setup predictor).buses)) (run-legal meaning setup predictor r.params r.bytes);
+  few = run-few meaning setup predictor;
 }
 
 pub run-good : (k : Kind) (setup : Setup) → HasRanges setup → IsGood setup (run_by k setup)
@@ -119,3 +125,18 @@ setup-ranges files name job image b j i =
       ids = is.ids range.id_width.0;
       bytes = all-of IsByte _ (placed-bytes job.base (replicate job.size 0) image.bytes (zero-bytes job.size) (image-bytes files job image b i));
     }
+
+-- how many cycles its run has at most: the greatest budget, and the longest drain
+drain-short : (window delay : ℕ) → window ≤ 32 → delay ≤ 200 → window * (8 * delay + 40) ≤ 52480
+drain-short window delay w d =
+    let many : 8 * delay + 40 ≤ 1640 = omega (arith, d) in
+    let all : window * (8 * delay + 40) ≤ 32 * 1640 = mul-le-mul w many in
+    omega (arith, all)
+
+pub cycles-few : (files : Files) (name : List ℕ) (job : Job) (image : Placement) → job_in true name (found files) ≡ Ok job → drain_limit (setup_of job image) + (setup_of job image).budget ≤ 252480
+cycles-few files name job image j =
+    let file = job-file true (found files) name job j in
+    let range : IsInRange job.params = job_in_range true file.bytes job file.read in
+    let is : IsRead job = job_read true file.bytes job file.read in
+    let drain = drain-short job.window (largest_of job.script) (is.most range.id_width.0) is.delays in
+    omega (arith, drain, is.budget)

@@ -1,5 +1,5 @@
 -- `judge` of the trace of a run.
-use Rattle.std.proofs.Common.{◌≡◌, ◌<◌, ◌≤◌, ◌^◌, ◌++◌, ℕ, Bool, true, false, if◌then◌else◌, cond, List, length, Option, Some, Result, Ok, Err, nat_le, refl, sym, ap, ◌∙◌, subst, arith}
+use Rattle.std.proofs.Common.{◌≡◌, ◌≤◌, ◌++◌, ℕ, Bool, true, false, if◌then◌else◌, cond, List, length, Option, Some, Result, Ok, Err, nat_le, refl, sym, ap, ◌∙◌, subst, arith}
 use Rattle.std.specs.Prelude.{String}
 use Rattle.std.specs.declared.alloc.Global.{Global}
 use Rattle.std.specs.Str.{bytes_eq}
@@ -41,8 +41,10 @@ use Rattle.xif_cli.specs.Words as form
 use Rattle.xif_cli.proofs.Forms.{one_form}
 use Rattle.command_laws.specs.Commands.{HoldBytes, SaysCycles, Runs, Judges, KeepsTrace, IsJudgedLegal}
 use Rattle.command_laws.proofs.Jobs.{job_read, no_map}
-use Rattle.command_laws.proofs.Lengths.{text-long}
-use Rattle.command_laws.proofs.Runs.{IsGood, run-good, job-file, setup-ranges}
+use Rattle.vcd_text.proofs.ReadsBack.{all_by}
+use Rattle.xif_signals.specs.Bus.{FitsWidths}
+use Rattle.command_laws.proofs.Sizes.{text-short}
+use Rattle.command_laws.proofs.Runs.{IsGood, run-good, job-file, setup-ranges, cycles-few}
 
 abbrev meant : Answer → Result Answer Status
 meant answer = Ok answer
@@ -132,16 +134,11 @@ verdict-is find name waveform text job j w =
     ap (λ r. r >>= λ job. verdict_in job waveform find) j
     ∙ ap (λ o. file_in which.Waveform longest_waveform o >>= λ text. or_status judge_status (judged_of job.map job.params text) >>= λ judged. Ok (prints (judged_end judged) (judged_text judged))) w
 
--- a file within the limit, and one beyond it
+-- a file within the limit
 file-fits : (text : List ℕ) → length text ≤ longest_waveform → file_in which.Waveform longest_waveform (Some text) ≡ Ok text
 file-fits text h =
     let fits : nat_le (length text) longest_waveform ≡ true = grind (arith, nat_tests) in
     ap (λ t. if t then Ok text else Err (TooBig which.Waveform)) fits
-
-file-beyond : (text : List ℕ) → longest_waveform < length text → file_in which.Waveform longest_waveform (Some text) ≡ Err (TooBig which.Waveform)
-file-beyond text h =
-    let beyond : nat_le (length text) longest_waveform ≡ false = grind (arith, nat_tests) in
-    ap (λ t. if t then Ok text else Err (TooBig which.Waveform)) beyond
 
 module _ (run_words judge_words : List (String Global)) (before after : Files) (job : Job) (answer : Answer) (bytes : HoldBytes before)
     (runs : Runs run_words before job answer) (keeps : KeepsTrace before after job answer) (judges : Judges judge_words after job) where
@@ -172,39 +169,37 @@ module _ (run_words judge_words : List (String Global)) (before after : Files) (
       let same : some-bytes file.bytes ≡ some-bytes judges.no_map.bytes = sym file.there ∙ judges.no_map.there in
       no_map false file.bytes judges.no_map.top judges.judged_by (ap Rattle.xif_job.specs.Document.document_of (same-some file.bytes judges.no_map.bytes same) ∙ judges.no_map.document) judges.no_map.no_map file.read
 
-  few : length text ≤ longest_waveform → length run.buses < 2 ^ 60
-  few h =
-      let long : length run.buses ≤ length (vcd_text_of job.params run.buses) = text-long job.params run.buses in
-      let same : length text ≡ length (vcd_text_of job.params run.buses) = ap length (text-is job.params run.buses) in
-      omega (arith, h, long, same)
+  few : length run.buses ≤ 252480
+  few =
+      let most = cycles-few before runs.name job has.image runs.is_job in
+      omega (arith, most, good.few)
 
-  judged-legal : length text ≤ longest_waveform → judged_of judges.judged_by.map judges.judged_by.params text ≡ Ok (no_fault_in (length run.buses))
-  judged-legal h =
+  -- so the text is within the limit of `judge`
+  fits : length text ≤ longest_waveform
+  fits =
+      let short = text-short job.params run.buses range (all_by (FitsWidths job.params) run.buses good.fits) (omega (arith, few)) in
+      let same : length text ≡ length (vcd_text_of job.params run.buses) = ap length (text-is job.params run.buses) in
+      omega (arith, few, short, same)
+
+  judged-legal : judged_of judges.judged_by.map judges.judged_by.params text ≡ Ok (no_fault_in (length run.buses))
+  judged-legal =
       ap (λ m. judged_of m judges.judged_by.params text) by-default
       ∙ ap (λ p. judged_of defaults p text) judges.params
       ∙ ap (judged_of defaults job.params) (text-is job.params run.buses)
-      ∙ (text_legal job.params run.buses range good.fits (few h)).1 good.legal
+      ∙ (text_legal job.params run.buses range good.fits (omega (arith, few))).1 good.legal
 
   outcome : judge_outcome judges.name job.trace (found after) ≡ (file_in which.Waveform longest_waveform (Some text) >>= λ text. or_status judge_status (judged_of judges.judged_by.map judges.judged_by.params text) >>= λ judged. Ok (prints (judged_end judged) (judged_text judged)))
   outcome = verdict-is (found after) judges.name job.trace text judges.judged_by judges.is_job there
 
-  legal : length text ≤ longest_waveform → judge_outcome judges.name job.trace (found after) ≡ Ok (legal_answer (length run.buses))
-  legal h =
+  legal : judge_outcome judges.name job.trace (found after) ≡ Ok (legal_answer (length run.buses))
+  legal =
       outcome
-      ∙ ap (λ r. r >>= λ text. or_status judge_status (judged_of judges.judged_by.map judges.judged_by.params text) >>= λ judged. Ok (prints (judged_end judged) (judged_text judged))) (file-fits text h)
-      ∙ ap (λ r. or_status judge_status r >>= λ judged. Ok (prints (judged_end judged) (judged_text judged))) (judged-legal h)
+      ∙ ap (λ r. r >>= λ text. or_status judge_status (judged_of judges.judged_by.map judges.judged_by.params text) >>= λ judged. Ok (prints (judged_end judged) (judged_text judged))) (file-fits text fits)
+      ∙ ap (λ r. or_status judge_status r >>= λ judged. Ok (prints (judged_end judged) (judged_text judged))) judged-legal
 
-  too-big : longest_waveform < length text → judge_outcome judges.name job.trace (found after) ≡ Err (TooBig which.Waveform)
-  too-big h =
-      outcome
-      ∙ ap (λ r. r >>= λ text. or_status judge_status (judged_of judges.judged_by.map judges.judged_by.params text) >>= λ judged. Ok (prints (judged_end judged) (judged_text judged))) (file-beyond text h)
-
-  pub judged : IsJudgedLegal judge_words after job.trace answer.printed
+  pub judged : IsJudgedLegal judge_words after answer.printed
   judged = record {
     cycles = length run.buses;
     says = subst (λ (a : Answer). SaysCycles (length run.buses) a.printed) (sym has.is_answer) (report-says run (step_start job has.image).memory.bytes);
-    text = text;
-    there = there;
-    legal = λ h. (form.Judge judges.name job.trace, (judges.command, legal h));
-    too_big = λ h. (form.Judge judges.name job.trace, (judges.command, too-big h));
+    legal = (form.Judge judges.name job.trace, (judges.command, legal));
   }

@@ -1,5 +1,5 @@
 -- A call of `run`, and a call of `judge` on the trace that it writes.
-use Rattle.std.specs.Prelude.{◌≡◌, ◌≤◌, ◌<◌, ◌++◌, ℕ, List, [], length, Option, Some, None, Ok, Err, All, String, true, false}
+use Rattle.std.specs.Prelude.{◌≡◌, ◌<◌, ◌++◌, ℕ, List, [], Option, Some, None, Ok, All, String, true, false}
 use Rattle.std.specs.declared.alloc.Global.{Global}
 use Rattle.std.specs.FinMap as map
 use Rattle.toml.specs.Data.{Members, get_member}
@@ -9,12 +9,10 @@ use Rattle.xif_targets.specs.Targets.{written}
 use Rattle.inorder_machine.specs.declared.stop.StopCause.{StopCause}
 use Rattle.xif_job.specs.Document.{document_of}
 use Rattle.xif_job.specs.declared.job.Job.{Job}
-use Rattle.xif_cli.specs.declared.status.Status.TheVariants.{TooBig}
 use Rattle.xif_cli.specs.declared.answer.End.{End}
 use Rattle.xif_cli.specs.Afterwards.{IsDone}
 use Rattle.xif_cli.specs.Ending.{texts_of, Means}
 use Rattle.xif_cli.specs.Judged.{legal_answer}
-use Rattle.xif_cli.specs.Limits.{longest_waveform}
 use Rattle.xif_cli.specs.Outcome.{Lookup, Answer, found, job_in}
 use Rattle.xif_cli.specs.Report.{outcome_text, cycles_text}
 use Rattle.xif_cli.specs.Words.{IsCommand}
@@ -65,17 +63,12 @@ abbrev pub KeepsTrace : (before after : Files) → Job → Answer → Type 0
 KeepsTrace before after job answer =
     map.get after job.trace ≡ map.get (written answer.targets before) job.trace
 
--- The words mean that the waveform in the file of a name is legal, with as many cycles as a report
--- says; if it is longer than a waveform may be, they mean that it is refused as too big.
-pub record IsJudgedLegal (words : List (String Global)) (files : Files) (waveform report : List ℕ)
+-- The words mean that a waveform is legal, with as many cycles as a report says.
+pub record IsJudgedLegal (words : List (String Global)) (files : Files) (report : List ℕ)
     : Type 0 where
   pub cycles : ℕ
   pub says : SaysCycles cycles report
-  pub text : List ℕ
-  pub there : map.get files waveform ≡ Some text
-  pub legal : length text ≤ longest_waveform → Means words (found files) (Ok (legal_answer cycles))
-  pub too_big : longest_waveform < length text →
-      Means words (found files) (Err (TooBig which.Waveform))
+  pub legal : Means words (found files) (Ok (legal_answer cycles))
 
 -- A call with these words, over these files and with an output of its own, ends as it is meant to
 -- (`output_is_defined` of `xif`): it ends so, leaves these files, and has printed this.

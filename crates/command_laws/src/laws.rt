@@ -12,13 +12,13 @@ ghost use Rattle.command_laws.specs.Commands.{HoldBytes, SaysCycles, Runs, RunsJ
 
 /// For every job and image for which `run` has an answer: where the trace stands in its file as the
 /// run wrote it, `judge` by a job with the same parameters and without a table `map` answers
-/// `legal cycles=N`, with N the number of cycles in the report of the run. A trace that is longer
-/// than `judge` reads is refused as too big.
+/// `legal cycles=N`, with N the number of cycles in the report of the run. No trace is longer than
+/// the waveforms that `judge` reads.
 pub fn trace_is_judged_legal()
     ensures { (run_words judge_words : List (String Global)) (before after : Files) (job : Job)
         (answer : Answer) → HoldBytes before → Runs run_words before job answer →
         KeepsTrace before after job answer → Judges judge_words after job →
-        IsJudgedLegal judge_words after job.trace answer.printed }
+        IsJudgedLegal judge_words after answer.printed }
 {}
 
 /// So a call of `judge` that ends behind a call of `run` that is done prints `legal cycles=N`, with
