@@ -14,7 +14,7 @@ use Rattle.xif_cli.specs.Judged.{legal_answer}
 use Rattle.xif_cli.specs.Outcome.{Lookup, Answer, found, command_outcome}
 use Rattle.xif_cli.specs.Verdict.{legal_line}
 use Rattle.xif_cli.proofs.Forms.{one_form}
-use Rattle.command_laws.specs.Commands.{HoldBytes, SaysCycles, Runs, RunsJob, Calls, Judges}
+use Rattle.command_laws.specs.Commands.{HoldBytes, SaysCycles, Runs, Calls, Judges}
 use Rattle.command_laws.proofs.Verdicts.{judged}
 
 -- words mean one thing
@@ -41,13 +41,12 @@ same-text : (text other : List ℕ) → some-text text ≡ some-text other → t
 same-text text other h = cc
 
 pub prints : (run_words judge_words : List (String Global)) (before left later after : Files) (job : Job) (end : End) (report verdict : List ℕ) → HoldBytes before
-    → RunsJob run_words before job → Calls run_words before Done left report → get later job.trace ≡ get left job.trace
+    → Runs run_words before job → Calls run_words before Done left report → get later job.trace ≡ get left job.trace
     → Judges judge_words later job → Calls judge_words later end after verdict → (end ≡ Done) × ((cycles : ℕ) × (SaysCycles cycles report × (verdict ≡ legal_line cycles)))
 prints run_words judge_words before left later after job end report verdict bytes runs ran same judges called =
     let left_is : left ≡ written ran.answer.targets before = same-files left (written ran.answer.targets before) ran.files in
     let report_is : report ≡ ran.answer.printed = same-text report ran.answer.printed ran.output in
-    let r : Runs run_words before job ran.answer = record { name = runs.name; command = runs.command; is_job = runs.is_job; means = ran.is_meant } in
-    let j = judged run_words judge_words before later job ran.answer bytes r (same ∙ ap (λ files. get files job.trace) left_is) judges in
+    let j = judged run_words judge_words before later job ran.answer bytes runs ran.is_meant (same ∙ ap (λ files. get files job.trace) left_is) judges in
     let is : called.answer ≡ legal_answer j.cycles = same-answer called.answer (legal_answer j.cycles) (one-meaning judge_words (found later) (Ok called.answer) (Ok (legal_answer j.cycles)) called.is_meant j.legal) in (
       sym called.ends ∙ ap (λ (a : Answer). a.end) is,
       (

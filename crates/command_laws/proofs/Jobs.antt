@@ -1,5 +1,6 @@
--- What holds of a job that is read: its set is lawful, there is an id for each instruction in flight,
--- window, budget and delays are within their ranges, and its log is another file than its trace. Without a table `map` its map is the default one.
+-- What holds of a job that is read: its set is lawful, there is an id for each instruction in
+-- flight, window, budget and delays are within their ranges, and its log is another file than its
+-- trace. Without a table `map` its map is the default one.
 use Rattle.std.proofs.Common.{◌≡◌, ◌≤◌, ◌^◌, ℕ, Bool, true, false, not, if◌then◌else◌, List, Option, Some, None, Ok, Err, pos, negsuc, min, refl, sym, ap, ◌∙◌, subst, arith, ◌++◌, max, length, nat_lt, ◌==◌, ◌∷◌, []}
 use Rattle.std.specs.Prelude.{Result}
 use Rattle.std.specs.Option.{ok_or}

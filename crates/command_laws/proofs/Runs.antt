@@ -1,5 +1,5 @@
--- The run of a job that is read, with its image: its buses fit their widths, and are a legal session
--- of no more than 252,480 cycles.
+-- The run of a job that is read, with its image: its buses fit their widths, and are a legal
+-- session of no more than 252,480 cycles.
 use Rattle.std.proofs.Common.{◌≡◌, ℕ, Bool, true, false, if◌then◌else◌, List, [], ◌∷◌, length, reverse, replicate, Option, Some, None, Result, Ok, Err, nat_le, refl, sym, ap, subst, arith, ◌+◌, ◌*◌, ◌≤◌}
 use Rattle.std.specs.List.{All}
 use Rattle.std.proofs.lemmas.List.{reverse-reverse}

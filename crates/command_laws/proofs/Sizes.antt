@@ -103,8 +103,8 @@ third-few : (t : Bool) (width : ℕ) → width ≤ 64 → (if t then width else 
 third-few true width h = h
 third-few false width h = omega arith
 
--- ten signals of one bit; four harts of 8 bits and four ids of 12; a word; six flags and three lanes of
--- 64 bits; and a result
+-- ten signals of one bit; four harts of 8 bits and four ids of 12; a word; six flags, twice, and
+-- three lanes of 64 bits; and a result
 all-costs : (p : Params) → IsInRange p → costs p (drop 1 signals) ≤ 491
 all-costs p r =
     let hart = cost-most p.hartid_width 8 r.hartid_width.1 in

@@ -28,7 +28,7 @@ use Rattle.waveform_laws.proofs.Texts.{text_legal}
 use Rattle.xif_job.specs.declared.job.Job.{Job}
 use Rattle.xif_cli.specs.declared.status.Status.{Status}
 use Rattle.xif_cli.specs.declared.status.Status.TheVariants.{TooBig}
-use Rattle.xif_cli.specs.Ending.{texts_of}
+use Rattle.xif_cli.specs.Ending.{texts_of, Means}
 use Rattle.xif_cli.specs.InOrder.{step_start}
 use Rattle.xif_cli.specs.Judged.{legal_answer}
 use Rattle.xif_cli.specs.Limits.{longest_waveform}
@@ -72,11 +72,11 @@ record HasRun (find : Lookup) (job : Job) (answer : Answer) : Type 0 where
   is_image : image_of job find ≡ Ok image
   is_answer : answer ≡ run_answer job image
 
-run-of : (words : List (String Global)) (files : Files) (job : Job) (answer : Answer) → Runs words files job answer → HasRun (found files) job answer
-run-of words files job answer r = go (image_of job (found files)) refl (sym loads ∙ outcome)
+run-of : (words : List (String Global)) (files : Files) (job : Job) (answer : Answer) → Runs words files job → Means words (found files) (Ok answer) → HasRun (found files) job answer
+run-of words files job answer r m = go (image_of job (found files)) refl (sym loads ∙ outcome)
   where
     outcome : run_outcome r.name (found files) ≡ Ok answer
-    outcome = ap (λ f. command_outcome f (found files)) (one_form (texts_of words) (form.Run r.name) r.means.0 r.command r.means.1.0) ∙ r.means.1.1
+    outcome = ap (λ f. command_outcome f (found files)) (one_form (texts_of words) (form.Run r.name) m.0 r.command m.1.0) ∙ m.1.1
 
     loads : run_outcome r.name (found files) ≡ (image_of job (found files) >>= both job >>= answered)
     loads = ap (λ j. j >>= (λ job. with_image job (found files)) >>= answered) r.is_job
@@ -141,9 +141,9 @@ file-fits text h =
     ap (λ t. if t then Ok text else Err (TooBig which.Waveform)) fits
 
 module _ (run_words judge_words : List (String Global)) (before after : Files) (job : Job) (answer : Answer) (bytes : HoldBytes before)
-    (runs : Runs run_words before job answer) (keeps : KeepsTrace before after job answer) (judges : Judges judge_words after job) where
+    (runs : Runs run_words before job) (means : Means run_words (found before) (Ok answer)) (keeps : KeepsTrace before after job answer) (judges : Judges judge_words after job) where
   has : HasRun (found before) job answer
-  has = run-of run_words before job answer runs
+  has = run-of run_words before job answer runs means
 
   abbrev run : Run
   run = run_by job.predictor (setup_of job has.image)

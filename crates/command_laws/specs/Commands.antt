@@ -40,13 +40,11 @@ pub record HasNoMap (find : Lookup) (name : List ℕ) : Type 0 where
   pub document : document_of bytes ≡ Some top
   pub no_map : get_member (codes "map") top ≡ None
 
--- The words are those of `run` for this job, which has an answer over these files.
-pub record Runs (words : List (String Global)) (files : Files) (job : Job) (answer : Answer)
-    : Type 0 where
+-- The words are those of `run` for this job.
+pub record Runs (words : List (String Global)) (files : Files) (job : Job) : Type 0 where
   pub name : List ℕ
   pub command : IsCommand (texts_of words) (form.Run name)
   pub is_job : job_in true name (found files) ≡ Ok job
-  pub means : Means words (found files) (Ok answer)
 
 -- The words are those of `judge` for the trace of a job, by a job with the same parameters and
 -- without a table `map`.
@@ -77,9 +75,3 @@ abbrev pub Calls : (words : List (String Global)) (before : Files) (end : End) (
 Calls words before end after printed =
     IsDone (λ answer. Means words (found before) (Ok answer)) end before (Some after)
     (Some []) (Some printed)
-
--- The words are those of `run` for this job.
-pub record RunsJob (words : List (String Global)) (files : Files) (job : Job) : Type 0 where
-  pub name : List ℕ
-  pub command : IsCommand (texts_of words) (form.Run name)
-  pub is_job : job_in true name (found files) ≡ Ok job

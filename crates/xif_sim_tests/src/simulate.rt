@@ -153,7 +153,8 @@ fn new_pair(rt: &impl Abort, alloc: Global, words: &[u32; 8]) -> Result<Pair, Fa
         × ((pair.engine.cycle ≡ 0) × (pair.retired ≡ 0))))) }
 {
     let setup = setup_of(rt, alloc, words)?;
-    let core = Core::new(alloc, &PARAMS, &setup.script, 8, setup.memory, 0)?;
+    let memory = memory_of(alloc, words)?;
+    let core = Core::new(alloc, &PARAMS, &setup.script, 8, memory, 0)?;
     let engine = Engine::new(alloc, &PARAMS, &setup.set, &setup.script)?;
     Ok(Pair {
         core,
