@@ -1,0 +1,4 @@
+pub mod Ghost
+pub mod Joined
+pub mod Told
+pub mod Linked
