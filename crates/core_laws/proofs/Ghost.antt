@@ -1,7 +1,7 @@
 -- What a coprocessor is told, kept as the uses of an engine: each step of the engine on its uses,
 -- with the answers of any coprocessor. A use has its result as soon as it may give it.
-use Rattle.std.proofs.Common.{◌≡◌, ◌+◌, ◌&&◌, ℕ, Bool, true, false, if◌then◌else◌, Option, Some, None, List, [], ◌∷◌, map, refl, sym, ap}
-use Rattle.std.specs.Prelude.{is_some, IsSome}
+use Rattle.std.proofs.Common.{◌≡◌, ◌+◌, ◌&&◌, Bool, true, false, if◌then◌else◌, Option, Some, None, List, [], ◌∷◌, map, refl}
+use Rattle.std.specs.Prelude.{is_some}
 use Rattle.xif_base.specs.declared.params.Key.{Key}
 use Rattle.coproc_config.specs.declared.accept.Hit.{Hit}
 use Rattle.xif_signals.specs.declared.bus.CpuOut.{CpuOut}

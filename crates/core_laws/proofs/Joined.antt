@@ -1,7 +1,6 @@
 -- The core and what its coprocessor is told stay paired in every cycle.
-use Rattle.std.proofs.Common.{◌≡◌, ◌&&◌, ◌+◌, ℕ, Bool, true, false, cond, if◌then◌else◌, not, List, map, Option, Some, None, refl, sym, ap, ◌∙◌, subst}
+use Rattle.std.proofs.Common.{◌≡◌, ◌&&◌, ◌+◌, ℕ, Bool, true, false, cond, not, List, map, Option, Some, None, refl, sym, ap, ◌∙◌, subst}
 use Rattle.std.specs.Prelude.{is_some, IfSome, find}
-use Rattle.xif_base.specs.declared.params.Key.{Key}
 use Rattle.xif_image.specs.Region.{word_at}
 use Rattle.inorder_machine.specs.declared.line.Write.{Write}
 use Rattle.xif_signals.specs.declared.bus.Bus.{Bus}
@@ -15,10 +14,10 @@ use Rattle.cycle_spec.specs.declared.choices.Executed.{Executed}
 use Rattle.cycle_spec.specs.declared.choices.Presented.{Presented}
 use Rattle.cycle_spec.specs.declared.entry.Entry.{Entry}
 use Rattle.cycle_spec.specs.declared.use_of.Use.{Use}
-use Rattle.cycle_spec.specs.Flight.{is_open, with_response, free_id, holds_id}
+use Rattle.cycle_spec.specs.Flight.{is_open, free_id, holds_id}
 use Rattle.cycle_spec.specs.State.{Core, Engine}
 use Rattle.cycle_spec.specs.Choices.{choices}
-use Rattle.cycle_spec.specs.Core.{id_in, word_in, presented_id, sent_on_present, release_step, cut_step, drain_step, execute_step, retire_step, memory_behind, ahead_behind, with_dispatch, dispatch_of, settled_entries, core_clock, core_accepts}
+use Rattle.cycle_spec.specs.Core.{id_in, word_in, sent_on_present, release_step, cut_step, drain_step, memory_behind, ahead_behind, with_dispatch, dispatch_of, settled_entries, core_clock, core_accepts}
 use Rattle.cycle_spec.specs.Engine.{latest, issue_start, with_answer, given_to, lanes_on, start_step, goes_on, started_uses, ended}
 use Rattle.cycle_spec.specs.Cycle.{Machines, hart_if}
 use Rattle.cycle_lists.specs.Lists.{Each, FirstAt}
@@ -33,9 +32,9 @@ use Rattle.cycle_paired.proofs.Staging.{Stage, OfferedStage, stage-offered, stag
 use Rattle.cycle_paired.proofs.Deciding.{Decided, decided_for, deciding-offered, deciding-quiet}
 use Rattle.cycle_paired.proofs.Lasting.{Late, Last, late-decided, late-result, late-executed, late-retired, late-last, result_with}
 use Rattle.cycle_paired.proofs.Cycling.{facts_of, joint_of, cpu_for, answer_on, sent_entries, sent_uses}
-use Rattle.cycle_paired.proofs.Same.{settled-is, settled_for, half_for, writes, waits-for}
+use Rattle.cycle_paired.proofs.Same.{settled-is, settled_for, writes, waits-for}
 use Rattle.core_laws.specs.Answered.{seen_with}
-use Rattle.core_laws.proofs.Ghost.{hit_with, readied, result_key, answered_with, given_with, decided_with, readied_with, ended_with, told_after, Ends, all-readied}
+use Rattle.core_laws.proofs.Ghost.{hit_with, result_key, answered_with, given_with, decided_with, readied_with, ended_with, told_after, Ends, all-readied}
 use Rattle.cycle_lists.proofs.Places.{last-found}
 
 -- ---- the registers, whatever the channel carries

@@ -19,7 +19,7 @@ use Rattle.cycle_paired.proofs.Answering.{mark}
 use Rattle.trace_laws.proofs.Apart.{Apart, named-apart}
 use Rattle.trace_laws.proofs.EngineTold.{Orderly, EngineTold}
 use Rattle.trace_laws.proofs.EngineSteps.{named_other, Offered}
-use Rattle.trace_laws.proofs.EngineCycle.{seen, Seen, seen_some, seen_after}
+use Rattle.trace_laws.proofs.EngineCycle.{seen, seen_some, seen_after}
 use Rattle.trace_laws.proofs.CoreRules.{Linked}
 use Rattle.core_laws.proofs.Told as told
 use Rattle.core_laws.proofs.Told.{quiet}

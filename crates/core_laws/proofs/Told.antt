@@ -1,11 +1,10 @@
 -- What a coprocessor is told stays what the buses say, in every cycle in which it keeps its rules.
-use Rattle.std.proofs.Common.{◌≡◌, ◌<◌, ◌≤◌, ◌+◌, ◌++◌, ◌==◌, ◌&&◌, ◌||◌, not, ℕ, Bool, true, false, if◌then◌else◌, Option, Some, None, List, [], ◌∷◌, map, refl, sym, ap, ◌∙◌, subst, arith}
+use Rattle.std.proofs.Common.{◌≡◌, ◌+◌, ◌==◌, ◌&&◌, ◌||◌, not, ℕ, Bool, true, false, if◌then◌else◌, Option, Some, None, List, [], ◌∷◌, map, refl, sym, ap, ◌∙◌, subst}
 use Rattle.std.specs.Prelude.{is_some, IfSome, IsSomeAnd}
 use Rattle.std.specs.List.{list_any}
-use Rattle.std.proofs.lemmas.Bool.{eqb-true, eq-eqb}
+use Rattle.std.proofs.lemmas.Bool.{eq-eqb}
 use Rattle.rv32_table.specs.Instr.{rd_field}
 use Rattle.xif_base.specs.declared.params.Key.{Key}
-use Rattle.xif_base.specs.declared.flags.ReadFlags.{ReadFlags}
 use Rattle.coproc_config.specs.declared.accept.Hit.{Hit}
 use Rattle.xif_signals.specs.declared.bus.Bus.{Bus}
 use Rattle.xif_signals.specs.declared.bus.CpuOut.{CpuOut}
@@ -13,24 +12,22 @@ use Rattle.xif_signals.specs.declared.bus.CopOut.{CopOut}
 use Rattle.xif_signals.specs.declared.bus.CpuIn.{CpuIn}
 use Rattle.xif_signals.specs.Bus.{join_of}
 use Rattle.xif_session.specs.declared.fact.Response.{Response}
-use Rattle.xif_session.specs.declared.fact.Decision.{Decision}
 use Rattle.xif_session.specs.declared.fact.Fact.{Fact}
 use Rattle.xif_session.specs.Facts as session
 use Rattle.xif_session.specs.Facts.{Facts, Past, past_after, same_key, is_accepted, is_released, is_killed, is_undecided, is_running, issue_key, register_key, commit_key, issue_waits, result_waits, is_issued, is_given, is_taken, is_start, named, now, answered_on, given_on, decided_on, ended_on, undecided_start, effective_start, decision_after, with_response, with_operands, with_decision, response_on}
-use Rattle.xif_session.specs.Rules.{HasOperands, MayFinish, HoldsG5Register, HoldsR3, HoldsR4, read_of}
-use Rattle.xif_session.proofs.Options.{Was, was_of, same_some, both-true, and-true, no_true, not_in, key_is, key_same}
+use Rattle.xif_session.specs.Rules.{MayFinish, HoldsR3, HoldsR4, read_of}
+use Rattle.xif_session.proofs.Options.{both-true, and-true}
 use Rattle.cycle_spec.specs.declared.use_of.Use.{Use}
 use Rattle.cycle_spec.specs.Turns.{transactions_after}
 use Rattle.cycle_spec.specs.State.{Engine}
 use Rattle.cycle_spec.specs.Engine as engine
 use Rattle.cycle_spec.specs.Engine.{has_key, has_start, latest, has_operands, is_complete, issue_start, started_uses, lanes_on, with_end, ended, owner_if, writeback_of, register_read_of}
 use Rattle.cycle_lists.specs.Lists.{Each}
-use Rattle.cycle_lists.proofs.Tests.{or-false_left, false-or, or-left, or-right}
 use Rattle.cycle_lists.proofs.Every.{Each-from, Each-both, Each-at}
 use Rattle.cycle_lists.proofs.Places.{last-found}
 use Rattle.trace_laws.specs.Driven.{bus_beside}
 use Rattle.trace_laws.proofs.Uses.{any-in, only}
-use Rattle.trace_laws.proofs.EngineTold.{Orderly, answer, AnsweredBy, fact_of, Computed, Told, Shows, Kept, Stage, IssueTold, EngineTold, Found, found, not-none}
+use Rattle.trace_laws.proofs.EngineTold.{Orderly, answer, AnsweredBy, Computed, Told, Shows, Kept, Stage, IssueTold, EngineTold, Found, found}
 use Rattle.trace_laws.proofs.EngineSteps.{stage_map, Offered, stage_answered, IsServed, stage_given, stage_decided, stage_ended, unanswered}
 use Rattle.trace_laws.proofs.EngineCycle as turn
 use Rattle.trace_laws.proofs.EngineCycle.{seen, seen_some, seen_after}
