@@ -1,0 +1,6 @@
+pub mod Ghost
+pub mod Joined
+pub mod Told
+pub mod Linked
+pub mod Cycle
+pub mod Halves
