@@ -5,5 +5,3 @@
 mod jobs;
 #[cfg(test)]
 mod program;
-#[cfg(test)]
-mod run;
