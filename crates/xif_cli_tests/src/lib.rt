@@ -5,3 +5,5 @@
 mod jobs;
 #[cfg(test)]
 mod program;
+#[cfg(test)]
+mod run;
