@@ -26,10 +26,10 @@ use Rattle.cycle_lists.proofs.Every.{Each-from, Each-at, Each-take, Each-append,
 use Rattle.cycle_lists.proofs.Places.{last-found}
 use Rattle.cycle_paired.specs.Paired.{IsEntry, Behind}
 use Rattle.cycle_paired.proofs.Facts.{accepted-some}
-use Rattle.cycle_paired.proofs.Choosing.{Facts}
+use Rattle.cycle_paired.proofs.Choosing.{Facts, take-through}
 use Rattle.cycle_events.specs.Shown.{IsCalm}
 use Rattle.cycle_events.proofs.Retired.{Missed}
-use Rattle.cycle_events.proofs.Chosen.{kept, GoesOn, LeadsOn, ReadsAt, RetiresAt, Plain, Stored, Turned, IsChosen, shows-it, reads-at, reads-all, all-taken, leads-on, uncut-on, TurnedBy, turned-by, taken-through, missed-none, no-hits, storeless}
+use Rattle.cycle_events.proofs.Chosen.{kept, GoesOn, LeadsOn, ReadsAt, RetiresAt, Plain, Stored, Turned, IsChosen, shows-it, reads-at, reads-all, all-taken, leads-on, uncut-on, TurnedBy, turned-by, missed-none, no-hits, storeless}
 
 -- ---- the head of a list
 
@@ -175,7 +175,7 @@ missed-chosen w run f g h = go (execution w w.flight) (reads-all w f.before)
     turned : (x : Executed) → ReadsAt w es x → (c : Cut) → TurnedBy es x c → IsChosen w (choices_with w (retirement es) (Some x) (Some c))
     turned x r c t =
         let b : Pairs Before (r.older ++ x.entry ∷ r.younger) = subst (Pairs Before) r.here f.before in
-        let one : take c.keep es ≡ r.older ++ x.entry ∷ [] = ap (λ n. take n es) t.keep ∙ ap (λ l. take (count_through x.entry.seq l) l) r.here ∙ taken-through r.older x.entry r.younger b in
+        let one : take c.keep es ≡ r.older ++ x.entry ∷ [] = ap (λ n. take n es) t.keep ∙ ap (λ l. take (count_through x.entry.seq l) l) r.here ∙ take-through r.older x.entry r.younger b in
         let place : ReadsAt w (take c.keep es) x = record { older = r.older; younger = []; here = one; reads = r.reads } in
         record {
           shows = shows-it w (presented_entry w.params.split (offer_in es) es);
@@ -273,7 +273,7 @@ stay-calm es f = go (youngest_released es) refl
         let ok = Each-at IsEntry es l.older p l.younger l.here f.ok in
         let olders = Each-from (λ x. Behind x p) IsCalm l.older (λ x q. safe-calm x (q.safe l.passes)) (Pairs-older Behind l.older p l.younger k) in
         let last = unknown-calm p (ok.answered (accepted-some p.response (ok.released l.passes))) in
-        subst (λ fs. Each IsCalm (take (count_through p.seq fs) fs)) (sym l.here) (subst (Each IsCalm) (sym (taken-through l.older p l.younger b)) (Each-append IsCalm l.older (p ∷ []) olders (last, tt)))
+        subst (λ fs. Each IsCalm (take (count_through p.seq fs) fs)) (sym l.here) (subst (Each IsCalm) (sym (take-through l.older p l.younger b)) (Each-append IsCalm l.older (p ∷ []) olders (last, tt)))
 
 -- ---- each cycle but that of the stop
 

@@ -1,8 +1,8 @@
 -- What the core chooses, in the words of the guards.
-use Rattle.std.proofs.Common.{◌≡◌, ◌≢◌, ◌==◌, ◌&&◌, ◌||◌, ◌+◌, ◌++◌, ℕ, suc, Bool, true, false, cond, not, List, [], ◌∷◌, length, take, drop, Option, Some, None, refl, sym, ap, ◌∙◌, subst, append_assoc, arith}
+use Rattle.std.proofs.Common.{◌≡◌, ◌==◌, ◌&&◌, ◌||◌, ◌++◌, ℕ, Bool, true, false, cond, not, List, [], ◌∷◌, length, take, drop, Option, Some, None, refl, sym, ap, ◌∙◌, subst, append_assoc}
 use Rattle.std.specs.Prelude.{is_some, IfSome}
 use Rattle.std.specs.Option.{option_and_then, option_map}
-use Rattle.std.proofs.lemmas.Bool.{eqb-true, eq-eqb, ne_eqb}
+use Rattle.std.proofs.lemmas.Bool.{eqb-true}
 use Rattle.std.proofs.lemmas.List.{take-append-drop}
 use Rattle.rv32_table.specs.declared.instr.Instr.{Instr}
 use Rattle.rv32_table.specs.declared.instr.Kind.{Kind}
@@ -24,7 +24,7 @@ use Rattle.cycle_spec.specs.declared.entry.EntryKind.TheVariants.{Local, Unknown
 use Rattle.cycle_spec.specs.declared.entry.Operand.{Operand}
 use Rattle.cycle_spec.specs.declared.entry.Operand.TheVariants.{Here, NotYet}
 use Rattle.cycle_spec.specs.declared.log.Cut.{Cut}
-use Rattle.cycle_spec.specs.Flight.{is_row, is_control_row, is_store, is_control, is_stopping, older_than, count_through, source_behind, is_here, value_or_zero, are_sources_here, is_held_back, may_execute_kind, may_execute, ready_behind, ready_oldest}
+use Rattle.cycle_spec.specs.Flight.{is_row, is_control_row, is_store, is_control, is_stopping, older_than, count_through, source_behind, is_here, value_or_zero, are_sources_here, is_held_back, may_execute_kind, ready_oldest}
 use Rattle.cycle_spec.specs.State.{Core}
 use Rattle.cycle_spec.specs.Choices.{outcome_of, executed_kind, executed_entry, execution, is_hit, is_any_hit, transfer_cut, control_cut, presentation_of}
 use Rattle.cycle_spec.specs.Core.{cut_step, drain_step}
@@ -35,6 +35,7 @@ use Rattle.cycle_lists.proofs.Every.{each, Each-at}
 use Rattle.cycle_lists.proofs.Places.{any-none}
 use Rattle.cycle_paired.specs.Paired.{IsEntry}
 use Rattle.cycle_paired.proofs.Facts.{other-numbers}
+use Rattle.cycle_paired.proofs.Choosing.{ReadyAt, ready-at, older-at}
 use Rattle.ahead_laws.proofs.Rows.{straight}
 use Rattle.cycle_events.specs.Shown.{IsCalm}
 use Rattle.cycle_events.proofs.Executed.{Reads}
@@ -89,34 +90,7 @@ shows-it w (Some e) = refl
 
 -- ---- the entry that executes
 
-record ReadyAt (dual : Bool) (registers : List ℕ) (before es : List Entry) (e : Entry) : Type 0 where
-  older : List Entry
-  younger : List Entry
-  here : es ≡ older ++ e ∷ younger
-  may : may_execute dual registers (before ++ older) e ≡ true
-
-ready-at : (dual : Bool) (registers : List ℕ) (before es : List Entry) (e : Entry) → ready_behind dual registers before es ≡ Some e → ReadyAt dual registers before es e
-ready-at dual registers before [] e h = cc
-ready-at dual registers before (x ∷ xs) e h = go (may_execute dual registers before x) refl h (λ k. ready-at dual registers (before ++ x ∷ []) xs e k)
-  where
-    nil : (ys : List Entry) → ys ++ [] ≡ ys
-    nil [] = refl
-    nil (y ∷ ys) = ap (λ l. y ∷ l) (nil ys)
-
-    go : (t : Bool) → may_execute dual registers before x ≡ t → cond t (Some x) (ready_behind dual registers (before ++ x ∷ []) xs) ≡ Some e
-        → (ready_behind dual registers (before ++ x ∷ []) xs ≡ Some e → ReadyAt dual registers (before ++ x ∷ []) xs e) → ReadyAt dual registers before (x ∷ xs) e
-    go true q k ih =
-        let same : x ≡ e = some-is x e k in
-        record { older = []; younger = xs; here = ap (λ y. y ∷ xs) same; may = ap (λ l. may_execute dual registers l e) (nil before) ∙ ap (may_execute dual registers before) (sym same) ∙ q }
-    go false q k ih =
-        let r = ih k in
-        record { older = x ∷ r.older; younger = r.younger; here = ap (λ l. x ∷ l) r.here; may = ap (λ l. may_execute dual registers l e) (sym (append_assoc before (x ∷ []) r.older)) ∙ r.may }
-
 -- those older than an entry are before it
-pub older-at : (xs : List Entry) (e : Entry) (ys : List Entry) → Each (λ x. x.seq ≢ e.seq) xs → older_than e.seq (xs ++ e ∷ ys) ≡ xs
-older-at [] e ys h = ap (λ t. cond t [] (e ∷ older_than e.seq ys)) (eq-eqb e.seq e.seq refl)
-older-at (x ∷ xs) e ys h = ap (λ t. cond t [] (x ∷ older_than e.seq (xs ++ e ∷ ys))) (ne_eqb x.seq e.seq h.0) ∙ ap (λ l. x ∷ l) (older-at xs e ys h.1)
-
 pub older-of : (es older : List Entry) (e : Entry) (younger : List Entry) → es ≡ older ++ e ∷ younger → Pairs Before es → older_than e.seq es ≡ older
 older-of es older e younger h b = ap (older_than e.seq) h ∙ older-at older e younger (other-numbers older e younger (subst (Pairs Before) h b)).0
 
@@ -242,17 +216,6 @@ turned-by es x c h = go x.outcome refl h
         by : (t : Bool) → cond t (Some (turn_to x es line)) None ≡ Some c → TurnedBy es x c
         by true q = let same = some-is (turn_to x es line) c q in record { line = line; outcome = e; keep = ap (λ z. z.keep) (sym same); target = ap (λ z. z.target) (sym same) }
         by false q = cc
-
-pub taken-through : (xs : List Entry) (e : Entry) (ys : List Entry) → Pairs Before (xs ++ e ∷ ys) → take (count_through e.seq (xs ++ e ∷ ys)) (xs ++ e ∷ ys) ≡ xs ++ e ∷ []
-taken-through xs e ys b =
-    let count : count_through e.seq (xs ++ e ∷ ys) ≡ length xs + 1 = ap (λ l. length l + 1) (older-at xs e ys (other-numbers xs e ys b).0) in
-    ap (λ n. take n (xs ++ e ∷ ys)) count ∙ go xs
-  where
-    go : (zs : List Entry) → take (length zs + 1) (zs ++ e ∷ ys) ≡ zs ++ e ∷ []
-    go [] = refl
-    go (z ∷ zs) =
-        let n : length (z ∷ zs) + 1 ≡ suc (length zs + 1) = omega arith in
-        ap (λ k. take k (z ∷ (zs ++ e ∷ ys))) n ∙ ap (λ l. z ∷ l) (go zs)
 
 -- ---- the store that retires
 

@@ -60,15 +60,6 @@ stopping w cause h = go w.mode refl h
     go DrainBegins q k = cc
     go Draining q k = cc
 
--- a drain stops nowhere
-pub drain-runs : (w : Core) → (w.mode ≡ Running → ⊥) → (choices w).stop ≡ None
-drain-runs w idle = go w.mode refl
-  where
-    go : (m : Mode) → w.mode ≡ m → (choices_in w m).stop ≡ None
-    go Running q = absurd (idle q)
-    go DrainBegins q = refl
-    go Draining q = refl
-
 -- ---- nothing is released
 
 head-unreleased : (x : Extension) (s : State) (y : Item) (cause : StopCause) → Agrees x s.memory s y → y.entry.stop ≡ Some cause → y.entry.released ≡ true → ⊥

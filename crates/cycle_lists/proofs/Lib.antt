@@ -4,3 +4,4 @@ pub mod Filters
 pub mod Places
 pub mod Free
 pub mod Order
+pub mod Runs

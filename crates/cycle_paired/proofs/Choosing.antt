@@ -5,6 +5,7 @@ use Rattle.std.specs.Option.{option_or, option_and_then, option_map}
 use Rattle.std.specs.List.{last_or}
 use Rattle.std.proofs.lemmas.Bool.{eq-eqb, ne_eqb}
 use Rattle.std.proofs.lemmas.List.{take-append-drop, drop_at}
+use Rattle.std.proofs.Math.Seq.{take-append-add}
 use Rattle.rv32_table.specs.declared.instr.Kind.{Kind}
 use Rattle.rv32_table.specs.declared.instr.Kind.TheVariants as row
 use Rattle.rv32_table.specs.Instr.{kind_of}
@@ -84,13 +85,13 @@ pub record ExecAt (es : List Entry) (x : Executed) : Type 0 where
   pub exec : Exec x.outcome x.entry
   pub unsafe_control : is_control x.entry ≡ true → is_safe x.entry ≡ false
 
-record ReadyAt (dual : Bool) (registers : List ℕ) (before es : List Entry) (e : Entry) : Type 0 where
+pub record ReadyAt (dual : Bool) (registers : List ℕ) (before es : List Entry) (e : Entry) : Type 0 where
   pub older : List Entry
   pub younger : List Entry
   pub here : es ≡ older ++ e ∷ younger
   pub may : may_execute dual registers (before ++ older) e ≡ true
 
-ready-at : (dual : Bool) (registers : List ℕ) (before es : List Entry) (e : Entry) → ready_behind dual registers before es ≡ Some e → ReadyAt dual registers before es e
+pub ready-at : (dual : Bool) (registers : List ℕ) (before es : List Entry) (e : Entry) → ready_behind dual registers before es ≡ Some e → ReadyAt dual registers before es e
 ready-at dual registers before [] e h = cc
 ready-at dual registers before (x ∷ xs) e h = go (may_execute dual registers before x) refl h (λ k. ready-at dual registers (before ++ x ∷ []) xs e k)
   where
@@ -187,10 +188,13 @@ retire-take (suc k) (e ∷ es) = retire-head (e ∷ es)
 
 -- ---- what goes isn't released
 
--- how many entries there are up to one
-older-at : (xs : List Entry) (e : Entry) (ys : List Entry) → Each (λ x. x.seq ≢ e.seq) xs → older_than e.seq (xs ++ e ∷ ys) ≡ xs
+-- those older than an entry are before it
+pub older-at : (xs : List Entry) (e : Entry) (ys : List Entry) → Each (λ x. x.seq ≢ e.seq) xs → older_than e.seq (xs ++ e ∷ ys) ≡ xs
 older-at [] e ys h = ap (λ t. cond t [] (e ∷ older_than e.seq ys)) (eq-eqb e.seq e.seq refl)
 older-at (x ∷ xs) e ys h = ap (λ t. cond t [] (x ∷ older_than e.seq (xs ++ e ∷ ys))) (ne_eqb x.seq e.seq h.0) ∙ ap (λ l. x ∷ l) (older-at xs e ys h.1)
+
+pub take-through : (xs : List Entry) (e : Entry) (ys : List Entry) → Pairs Before (xs ++ e ∷ ys) → take (count_through e.seq (xs ++ e ∷ ys)) (xs ++ e ∷ ys) ≡ xs ++ e ∷ []
+take-through xs e ys b = ap (λ l. take (length l + 1) (xs ++ e ∷ ys)) (older-at xs e ys (other-numbers xs e ys b).0) ∙ take-append-add xs (e ∷ ys) 1
 
 pub drop-through : (xs : List Entry) (e : Entry) (ys : List Entry) → Pairs Before (xs ++ e ∷ ys) → drop (count_through e.seq (xs ++ e ∷ ys)) (xs ++ e ∷ ys) ≡ ys
 drop-through xs e ys b =

@@ -1,5 +1,5 @@
 -- A run, from its first cycle to its last.
-use Rattle.std.proofs.Common.{◌≡◌, ◌≤◌, ◌||◌, ◌++◌, ℕ, zero, suc, Bool, true, false, List, [], ◌∷◌, length, replicate, reverse, Option, Some, None, refl, sym, ap, ◌∙◌, subst, append-nil, arith}
+use Rattle.std.proofs.Common.{◌≡◌, ◌≤◌, ◌++◌, ℕ, zero, suc, List, [], ◌∷◌, length, replicate, reverse, Option, Some, None, refl, sym, ap, ◌∙◌, subst, append-nil, arith}
 use Rattle.std.specs.Prelude.{is_some, slice_index_or}
 use Rattle.std.specs.Option.{option_map}
 use Rattle.std.specs.List.{filter_map, cons_option}
@@ -12,16 +12,15 @@ use Rattle.inorder_machine.specs.declared.line.Stepped.TheVariants.{Stop}
 use Rattle.inorder_machine.specs.declared.stop.StopCause.{StopCause}
 use Rattle.inorder_machine.specs.Machine.{State, next_step}
 use Rattle.inorder_machine.specs.After.{after}
-use Rattle.cycle_spec.specs.declared.choices.Mode.{Mode}
-use Rattle.cycle_spec.specs.declared.choices.Mode.TheVariants.{Running, DrainBegins, Draining}
 use Rattle.cycle_spec.specs.declared.entry.Entry.{Entry}
 use Rattle.cycle_spec.specs.declared.log.CycleLog.{CycleLog}
 use Rattle.cycle_spec.specs.declared.log.End.TheVariants.{Stopped, Budget}
 use Rattle.cycle_spec.specs.Choices.{stop_at, choices}
-use Rattle.cycle_spec.specs.Core.{line_of, mode_after}
+use Rattle.cycle_spec.specs.Core.{line_of}
 use Rattle.cycle_spec.specs.Engine.{units_of}
 use Rattle.cycle_spec.specs.Cycle.{Machines, cycle}
-use Rattle.cycle_spec.specs.Run.{Setup, Meaning, Progress, new_machines, start, next as next_progress, unless, cycles_until, is_stopped, is_empty, drain_limit, with_drain, drained, progress_of, end_by, run_after, run_of}
+use Rattle.cycle_spec.specs.Run.{Setup, Meaning, Progress, new_machines, start, next as next_progress, with_drain, progress_of, end_by, run_after, run_of}
+use Rattle.cycle_lists.proofs.Runs.{Keeping, Comes, Going, Halted, comes}
 use Rattle.cycle_paired.specs.Paired.{Paired}
 use Rattle.cycle_paired.proofs.Closing.{cycle-paired}
 use Rattle.cycle_paired.proofs.Always.{start-paired, drain-paired}
@@ -33,7 +32,7 @@ use Rattle.cycle_events.specs.Becomes.{Becomes}
 use Rattle.cycle_events.specs.Shown.{Left, left_by, Shows, Shown, extension_of, state_in}
 use Rattle.cycle_events.proofs.Moving.{stays, next}
 use Rattle.cycle_events.proofs.Cycled.{cycled}
-use Rattle.cycle_events.proofs.Stopping.{stopping, drain-runs, stop-leaves, stop-says, goes-says}
+use Rattle.cycle_events.proofs.Stopping.{stopping, stop-leaves, stop-says, goes-says}
 use Rattle.cycle_events.proofs.Between.{start-shown, drain-shown, cycle-params, cycle-extension}
 use Rattle.cycle_refines.specs.RefinesInOrder.{extension_in, first_state, RefinesInOrder}
 
@@ -43,10 +42,10 @@ use Rattle.cycle_refines.specs.RefinesInOrder.{extension_in, first_state, Refine
 abbrev pub retired_in : List CycleLog → List Retire
 retired_in logs = filter_map (λ log. log.retired) logs
 
-reverse-cons : {A : Type 0} (x : A) (xs : List A) → reverse (x ∷ xs) ≡ reverse xs ++ x ∷ []
+pub reverse-cons : {A : Type 0} (x : A) (xs : List A) → reverse (x ∷ xs) ≡ reverse xs ++ x ∷ []
 reverse-cons x xs = reverse-append (x ∷ []) xs
 
-reverse-lines : (logs : List CycleLog) → retired_in (reverse logs) ≡ reverse (retired_in logs)
+pub reverse-lines : (logs : List CycleLog) → retired_in (reverse logs) ≡ reverse (retired_in logs)
 reverse-lines [] = refl
 reverse-lines (log ∷ logs) =
     ap retired_in (reverse-cons log logs) ∙ filter_map-append (λ (l : CycleLog). l.retired) (reverse logs) (log ∷ []) ∙ ap (λ l. l ++ cons_option log.retired []) (reverse-lines logs) ∙ go log.retired
@@ -80,10 +79,6 @@ pub record Halts {P : Type 0} (s : Setup) (p : Progress P) : Type 0 where
   pub after_it : After s (left_by 0 (retired_in p.logs) p.machines)
   pub stops : next_step (extension_in s) after_it.now ≡ Stop cause
   pub units : units_of p.machines.engine 0 ≡ after_it.now.units
-
-pub data Comes {P : Type 0} (s : Setup) (p : Progress P) : Type 0 where
-  Going : Goes s p → Comes s p
-  Halted : Halts s p → Comes s p
 
 -- ---- what the machine that runs ahead says
 
@@ -174,46 +169,6 @@ halts-there meaning s p cause g z =
       units = ap (λ q. q.units) same ∙ stops.1;
     }
 
-cycle-comes : {P : Type 0} (meaning : Meaning P) (s : Setup) (p : Progress P) → IsInRange s.params → Goes s p → Comes s (next_progress meaning p)
-cycle-comes meaning s p range g = go (choices p.machines.core).stop refl
-  where
-    go : (o : Option StopCause) → (choices p.machines.core).stop ≡ o → Comes s (next_progress meaning p)
-    go None z = Going (goes-on meaning s p range g z)
-    go (Some cause) z = Halted (halts-there meaning s p cause g z)
-
--- ---- the budget
-
-running : {P : Type 0} (meaning : Meaning P) (s : Setup) (n : ℕ) (p : Progress P) → IsInRange s.params → Comes s p → Comes s (cycles_until meaning is_stopped n p)
-running meaning s zero p range c = c
-running meaning s (suc n) p range (Halted h) = subst (λ b. Comes s (unless b p (λ q. cycles_until meaning is_stopped n (next_progress meaning q)))) (sym (ap is_some h.stopped)) (Halted h)
-running meaning s (suc n) p range (Going g) =
-    subst (λ b. Comes s (unless b p (λ q. cycles_until meaning is_stopped n (next_progress meaning q)))) (sym (ap is_some g.unstopped))
-    (running meaning s n (next_progress meaning p) range (cycle-comes meaning s p range g))
-
--- ---- the drain
-
-cycle-mode : (answer : ℕ → ℕ → ℕ) (m : Machines) → (cycle m 0 answer).core.mode ≡ mode_after m.core.mode
-unfolding cycle
-cycle-mode answer m = refl
-
-pub still-draining : (answer : ℕ → ℕ → ℕ) (m : Machines) → (m.core.mode ≡ Running → ⊥) → (cycle m 0 answer).core.mode ≡ Running → ⊥
-still-draining answer m idle h = go m.core.mode idle (sym (cycle-mode answer m) ∙ h)
-  where
-    go : (mode : Mode) → (mode ≡ Running → ⊥) → mode_after mode ≡ Running → ⊥
-    go Running n k = n refl
-    go DrainBegins n k = cc
-    go Draining n k = cc
-
-draining : {P : Type 0} (meaning : Meaning P) (s : Setup) (n : ℕ) (p : Progress P) → IsInRange s.params → (p.machines.core.mode ≡ Running → ⊥) → Goes s p → Goes s (cycles_until meaning is_empty n p)
-draining meaning s zero p range idle g = g
-draining meaning s (suc n) p range idle g =
-    go (is_empty p.machines.core)
-    (draining meaning s n (next_progress meaning p) range (still-draining (meaning.answer p.predictor) p.machines idle) (goes-on meaning s p range g (drain-runs p.machines.core idle)))
-  where
-    go : (b : Bool) → Goes s (cycles_until meaning is_empty n (next_progress meaning p)) → Goes s (unless b p (λ q. cycles_until meaning is_empty n (next_progress meaning q)))
-    go true h = g
-    go false h = h
-
 pub drain-begins : {P : Type 0} (s : Setup) (p : Progress P) → Goes s p → Goes s (with_drain p)
 drain-begins s p g = record {
   params = g.params;
@@ -223,41 +178,33 @@ drain-begins s p g = record {
   events = record { events = g.events.events; may = g.events.may; there = drain-shown (first_state s) 0 (retired_in p.logs) p.machines (run (extension_in s) (begun (first_state s)) g.events.events) g.events.there };
 }
 
-pub draining-begins : {P : Type 0} (p : Progress P) → (with_drain p).machines.core.mode ≡ Running → ⊥
-draining-begins p h = cc
-
-drains : {P : Type 0} (meaning : Meaning P) (s : Setup) (n : ℕ) (p : Progress P) → IsInRange s.params → Comes s p → Comes s (drained meaning n p)
-drains meaning s n p range (Halted h) = subst (λ b. Comes s (unless (b || is_empty p.machines.core) p (λ q. cycles_until meaning is_empty n (with_drain q)))) (sym (ap is_some h.stopped)) (Halted h)
-drains meaning s n p range (Going g) =
-    subst (λ b. Comes s (unless (b || is_empty p.machines.core) p (λ q. cycles_until meaning is_empty n (with_drain q)))) (sym (ap is_some g.unstopped))
-    (go (is_empty p.machines.core) (draining meaning s n (with_drain p) range (draining-begins p) (drain-begins s p g)))
-  where
-    go : (b : Bool) → Goes s (cycles_until meaning is_empty n (with_drain p)) → Comes s (unless b p (λ q. cycles_until meaning is_empty n (with_drain q)))
-    go true h = Going g
-    go false h = Going h
+pub keeping : {P : Type 0} (meaning : Meaning P) (s : Setup) → IsInRange s.params → Keeping meaning (Goes s) (Halts s)
+keeping meaning s range = record {
+  unstopped = λ p g. g.unstopped;
+  stopped = λ p h. ap is_some h.stopped;
+  goes-on = λ p g z. goes-on meaning s p range g z;
+  halts = λ p cause g z. halts-there meaning s p cause g z;
+  drain-begins = λ p g. drain-begins s p g;
+}
 
 -- ---- the whole run
 
-replicate-first : (n : ℕ) (z : List (List ℕ)) → 1 ≤ n → slice_index_or (replicate n z) 0 [] ≡ z
+pub replicate-first : (n : ℕ) (z : List (List ℕ)) → 1 ≤ n → slice_index_or (replicate n z) 0 [] ≡ z
 replicate-first zero z h = absurd (omega (arith, h))
 replicate-first (suc n) z h = refl
 
-pub starts : {P : Type 0} (s : Setup) (predictor : P) → IsInRange s.params → Comes s (start s predictor)
+pub starts : {P : Type 0} (s : Setup) (predictor : P) → IsInRange s.params → Goes s (start s predictor)
 starts s predictor range =
     let m = new_machines s in
     let units : units_of m.engine 0 ≡ zeros s.set = replicate-first s.params.num_harts (zeros s.set) range.num_harts.0 in
     let same : state_in 0 m ≡ first_state s = ap (λ u. record (first_state s) { units = u }) units in
-    Going (record {
+    record {
       params = refl;
       extension = refl;
       unstopped = refl;
       paired = start-paired 0 s;
       events = stays (extension_in s) (Shown (first_state s) 0 [] m) (begun (first_state s)) (subst (λ z. Shown z 0 [] m (begun z)) same (start-shown 0 s));
-    })
-
-pub comes : {P : Type 0} (meaning : Meaning P) (s : Setup) (predictor : P) → IsInRange s.params → Comes s (progress_of meaning s predictor)
-comes meaning s predictor range =
-    drains meaning s (drain_limit s) (cycles_until meaning is_stopped s.budget (start s predictor)) range (running meaning s s.budget (start s predictor) range (starts s predictor range))
+    }
 
 -- ---- what it leaves
 
@@ -277,7 +224,7 @@ refined s p es a units stop =
       stop = stop;
     }
 
-refined-at : {P : Type 0} (s : Setup) (p : Progress P) → Comes s p → RefinesInOrder s p.machines.core.flight (run_after p)
+refined-at : {P : Type 0} (s : Setup) (p : Progress P) → Comes (Goes s) (Halts s) p → RefinesInOrder s p.machines.core.flight (run_after p)
 refined-at s p (Going g) =
     let l = leaves s (retired_in p.logs) p.machines (run (extension_in s) (begun (first_state s)) g.events.events) g.extension g.events.there in
     refined s p p.machines.core.flight l.after_it l.units (λ cause h. absurd (no-stop cause (sym (ap end_by g.unstopped) ∙ h)))
@@ -294,4 +241,4 @@ refined-at s p (Halted h) =
     by cause q = (h.stops ∙ ap Stop q, h.units)
 
 pub run-refines : {P : Type 0} (meaning : Meaning P) (s : Setup) (predictor : P) → IsInRange s.params → RefinesInOrder s (progress_of meaning s predictor).machines.core.flight (run_of meaning s predictor)
-run-refines meaning s predictor range = refined-at s (progress_of meaning s predictor) (comes meaning s predictor range)
+run-refines meaning s predictor range = refined-at s (progress_of meaning s predictor) (comes meaning (Goes s) (Halts s) (keeping meaning s range) s predictor (starts s predictor range))

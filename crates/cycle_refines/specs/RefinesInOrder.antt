@@ -1,5 +1,5 @@
 -- What a run leaves is what the in-order machine leaves.
-use Rattle.std.specs.Prelude.{◌≡◌, ℕ, Some, List, [], length, replicate, reverse}
+use Rattle.std.specs.Prelude.{◌≡◌, Some, List, [], length, replicate, reverse}
 use Rattle.coproc_config.specs.State.{zeros}
 use Rattle.inorder_machine.specs.declared.line.Stepped.TheVariants.{Stop}
 use Rattle.inorder_machine.specs.declared.stop.StopCause.{StopCause}

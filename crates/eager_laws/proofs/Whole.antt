@@ -7,10 +7,10 @@ use Rattle.cycle_spec.specs.declared.choices.Mode.TheVariants.{Running}
 use Rattle.cycle_spec.specs.Choices.{choices}
 use Rattle.cycle_spec.specs.Core.{mode_after}
 use Rattle.cycle_spec.specs.State.{Core}
-use Rattle.cycle_spec.specs.Cycle.{Machines, cycle}
 use Rattle.cycle_spec.specs.Run.{Setup, Meaning, Progress, start, next, unless, cycles_until, is_stopped, is_empty, drain_limit, with_drain, drained, progress_of}
-use Rattle.cycle_events.proofs.Stopping.{drain-runs, stop-says}
-use Rattle.cycle_refines.proofs.Running.{Goes, Comes, Going, Halted, goes-on, still-draining, drain-begins, draining-begins, starts}
+use Rattle.cycle_lists.proofs.Runs.{drain-runs, cycle-mode, still-draining, draining-begins}
+use Rattle.cycle_events.proofs.Stopping.{stop-says}
+use Rattle.cycle_refines.proofs.Running.{Goes, goes-on, drain-begins, starts}
 use Rattle.eager_laws.specs.Flights.{EachTold, flight_after, cycles_of, told_of}
 use Rattle.eager_laws.specs.Eager.{IsEager}
 use Rattle.eager_laws.proofs.Following.{told_by, Follows, follows-next, follows-start, follows-drain}
@@ -27,10 +27,6 @@ later meaning s first p range g phase f = record {
   eager = (eager-at meaning s first p range g f.follows phase, f.eager);
   follows = follows-next meaning s first p (scene-tells s p (scene s p g)) g.paired.order.pairs f.follows;
 }
-
-cycle-mode : (answer : ℕ → ℕ → ℕ) (m : Machines) → (cycle m 0 answer).core.mode ≡ mode_after m.core.mode
-unfolding cycle
-cycle-mode answer m = refl
 
 -- ---- up to a stop, or to the end of the budget
 
@@ -49,7 +45,7 @@ came-next meaning s n p range g r l = go (choices p.machines.core).stop refl
     more a h = omega (arith, h)
 
     go : (o : Option StopCause) → (choices p.machines.core).stop ≡ o → Came s n (next meaning p)
-    go None z = On (goes-on meaning s p range g z) (cycle-mode (meaning.answer p.predictor) p.machines ∙ ap mode_after r) (more (length (told_by p)) l)
+    go None z = On (goes-on meaning s p range g z) (cycle-mode 0 (meaning.answer p.predictor) p.machines ∙ ap mode_after r) (more (length (told_by p)) l)
     go (Some cause) z = Off (ap is_some (stop-says 0 (meaning.answer p.predictor) p.machines cause z))
 
 running : {P : Type 0} (meaning : Meaning P) (s : Setup) (first : P) (n : ℕ) (p : Progress P) → IsInRange s.params → Came s n p → SoFar meaning s first p → Runs meaning s first 0 (cycles_until meaning is_stopped n p)
@@ -63,19 +59,9 @@ running meaning s first (suc n) p range (On g r l) f =
     less : (a : ℕ) → a + suc n ≡ s.budget → a < s.budget
     less a h = omega (arith, h)
 
-begins : {P : Type 0} (s : Setup) (first : P) → IsInRange s.params → Goes s (start s first)
-begins s first range = go (starts s first range)
-  where
-    go : Comes s (start s first) → Goes s (start s first)
-    go (Going g) = g
-    go (Halted h) = absurd (none h.cause h.stopped)
-      where
-        none : (cause : StopCause) → None ≡ Some cause → ⊥
-        none cause k = cc
-
 up-to : {P : Type 0} (meaning : Meaning P) (s : Setup) (first : P) → IsInRange s.params → Runs meaning s first 0 (cycles_until meaning is_stopped s.budget (start s first))
 up-to meaning s first range =
-    running meaning s first s.budget (start s first) range (On (begins s first range) refl (omega arith)) (record { eager = tt; follows = follows-start meaning s first })
+    running meaning s first s.budget (start s first) range (On (starts s first range) refl (omega arith)) (record { eager = tt; follows = follows-start meaning s first })
 
 -- ---- the drain
 

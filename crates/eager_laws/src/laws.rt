@@ -5,9 +5,9 @@ ghost use Rattle.cycle_spec.specs.Run.{Setup, Meaning, start, is_stopped, cycles
 ghost use Rattle.eager_laws.specs.Flights.{cycles_of, EachTold, flight_after, told_of};
 ghost use Rattle.eager_laws.specs.Eager.{IsEager};
 
-/// What the core has in flight is what the log and the buses so far tell: addresses, words,
-/// predictions and responses. So it is after each cycle up to a stop, and after each cycle of the
-/// drain behind the budget. A run has a log for each bus.
+/// What the log and the buses so far say is in flight is what the core has in flight: addresses,
+/// words, predictions and responses. So it is after each cycle up to a stop, and after each cycle
+/// of the drain behind the budget. A run has a log for each bus.
 pub fn the_flight_is_told<P>()
     ensures runs { (meaning : Meaning P) (setup : Setup) (predictor : P) (cycles : ℕ) →
         IsInRange setup.params →

@@ -9,11 +9,12 @@ use Rattle.xif_base.specs.Params.{IsInRange}
 use Rattle.coproc_config.specs.Set.{UnitTable}
 use Rattle.coproc_config.specs.Accept.{hit_of}
 use Rattle.coproc_config.specs.Apply.{Outcome}
-use Rattle.xif_session.proofs.Options.{both-true, no_true}
+use Rattle.xif_session.proofs.Options.{no_true}
 use Rattle.cycle_spec.specs.declared.use_of.Use.{Use}
 use Rattle.cycle_spec.specs.Engine.{register_read_of, is_complete, is_next, outcome_by, outcome_of, with_ready, units_behind}
 use Rattle.engine_history.specs.Lives.{Life, Answer, Operands, is_accepted, is_killed}
 use Rattle.engine_history.specs.Told.{hit_told, use_told, others, latest_uses, later, reads, complete_cycle, counts, all_complete, ready_cycle, is_ready, outcome_told, units_told, result_told}
+use Rattle.engine_history.proofs.Tests.{counts_hart}
 use Rattle.engine_history.proofs.Settle.{is_due, ready_one, push_units, Passed, drop_blocked, drop_units}
 use Rattle.engine_history.proofs.Grown.{Old, Each2, Grown, later_is, Same, complete_same}
 use Rattle.engine_history.proofs.Ready.{Grouped, AllBy, counted, ready_is, ready_stays}
@@ -37,9 +38,6 @@ one_dropped set cycle h st key us u p =
 abbrev pub Idle : ℕ → List Life → Type 0
 Idle hart [] = Unit {0}
 Idle hart (l ∷ ls) = (counts hart l ≡ true → is_ready l ls ≡ true) × Idle hart ls
-
-counts_hart : (hart : ℕ) (n : Life) → counts hart n ≡ true → n.key.hart ≡ hart
-counts_hart hart n h = eqb-true n.key.hart hart (both-true (n.key.hart == hart) _ h).0
 
 -- the older uses of a ready one
 all_idle : (hart m : ℕ) (ls : List Life) → all_complete hart ls ≡ Some m → Idle hart ls

@@ -22,6 +22,7 @@ use Rattle.engine_history.specs.Lives.{Life, Answer, Verdict, new_life, is_kille
 use Rattle.engine_history.specs.Runs.{cpu_of, cop_of}
 use Rattle.engine_history.specs.Channels.{named_start}
 use Rattle.engine_history.specs.Told.{hit_by, hit_told, decision_told, use_told, plain, others, latest_uses}
+use Rattle.engine_history.proofs.Tests.{killed_told}
 use Rattle.engine_history.proofs.Lists.{map_others, map_latest, latest_is, any_latest}
 use Rattle.engine_history.proofs.Keep.{Rising, HeadWaits, rising_up, head_start}
 use Rattle.engine_history.proofs.Plain.{plain_map, latest_plain, any_plain}
@@ -124,14 +125,6 @@ pub record IsSound (cycle : ℕ) (last : Bus) (ls : List Life) : Type 0 where
   pub waits : issue_waits last ≡ true → HeadWaits (issue_key last) ls
 
 -- ---- a use starts
-
-killed_told : (v : Option Verdict) → facts.is_killed (decision_told v) ≡ option_map_or (λ (v : Verdict). v.kill) v false
-killed_told None = refl
-killed_told (Some v) = go v.kill
-  where
-    go : (k : Bool) → facts.is_killed (verdict_of k) ≡ k
-    go true = refl
-    go false = refl
 
 -- no older use has the start
 none_older : (params : Params) (set : List UnitTable) (key : Key) (bound owner : ℕ) (ls : List Life) → owner ≡ bound → Rising bound ls → option_map_or (λ l. spec.is_offered_on key owner (use_told params set l)) (latest key ls) false ≡ false

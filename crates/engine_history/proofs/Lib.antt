@@ -1,4 +1,5 @@
 pub mod Lists
+pub mod Tests
 pub mod Keep
 pub mod Plain
 pub mod Fields

@@ -13,20 +13,13 @@ use Rattle.xif_session.specs.Facts.{past_of, issue_key, register_key, is_given, 
 use Rattle.xif_session.specs.Facts as facts
 use Rattle.xif_session.specs.Rules.{HasHart, HoldsI2, HoldsG2}
 use Rattle.xif_session.specs.Uses.{last_bus}
-use Rattle.engine_history.specs.Lives.{Life, Answer, Operands, Verdict, latest, lives_of, lives_with}
+use Rattle.engine_history.specs.Lives.{Life, Answer, Operands, latest, lives_of, lives_with}
 use Rattle.engine_history.specs.Runs.{IsOrderly, IsDriven, engine_of}
-use Rattle.engine_history.specs.Told.{decision_told, fact_told}
+use Rattle.engine_history.specs.Told.{fact_told}
+use Rattle.engine_history.proofs.Tests.{killed_told}
 use Rattle.engine_history.proofs.Offered.{is_running}
 use Rattle.engine_history.proofs.Ordered.{IsOrderlyCycle, AllOrderly, IsBoth, both_told}
 use Rattle.engine_history.proofs.Session.{facts_are, starts_are, named_are}
-
-killed_told : (v : Option Verdict) → facts.is_killed (decision_told v) ≡ option_map_or (λ (v : Verdict). v.kill) v false
-killed_told None = refl
-killed_told (Some v) = go v.kill
-  where
-    go : (k : Bool) → facts.is_killed (verdict_of k) ≡ k
-    go true = refl
-    go false = refl
 
 accepted_told : (a : Option Answer) → facts.is_accepted (option_map (λ (a : Answer). a.response) a) ≡ option_map_or (λ (a : Answer). a.response.accept) a false
 accepted_told None = refl

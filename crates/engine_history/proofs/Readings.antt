@@ -1,15 +1,11 @@
 -- Other readings of ready cycles and accumulators.
 use Rattle.std.proofs.Common.{if◌then◌else◌, ◌≡◌, ◌==◌, ◌&&◌, not, max, ℕ, Bool, true, false, Option, Some, None, List, [], ◌∷◌, refl, sym, ap, ap₂, ◌∙◌, arith}
 use Rattle.std.specs.Prelude.{is_some}
-use Rattle.std.proofs.lemmas.Bool.{eqb-true}
 use Rattle.xif_base.specs.declared.params.Params.{Params}
 use Rattle.coproc_config.specs.Set.{UnitTable}
-use Rattle.xif_session.proofs.Options.{both-true}
 use Rattle.engine_history.specs.Lives.{Life, is_accepted, is_killed, without_killed}
 use Rattle.engine_history.specs.Told.{later, complete_cycle, counts, all_complete, ready_cycle, is_ready, all_ready, outcome_told, units_told}
-
-counts_hart : (hart : ℕ) (l : Life) → counts hart l ≡ true → l.key.hart ≡ hart
-counts_hart hart l h = eqb-true l.key.hart hart (both-true (l.key.hart == hart) _ h).0
+use Rattle.engine_history.proofs.Tests.{counts_hart}
 
 -- ---- all are ready with the cycle with which all are complete
 

@@ -7,14 +7,14 @@ use Rattle.xif_base.specs.declared.params.Key.{Key}
 use Rattle.xif_signals.specs.declared.bus.Bus.{Bus}
 use Rattle.xif_session.specs.declared.fact.Fact.{Fact}
 use Rattle.xif_session.specs.declared.fact.Decision.{Decision}
-use Rattle.xif_session.specs.Facts.{Past, past_of, same_key, issue_key, register_key, commit_key, result_key, is_issued, is_given, is_taken, issue_waits, is_undecided, is_covered, verdict_of, decision_after, new_fact, with_response, with_operands, with_decision, with_end, response_on, undecided_start, has_killed, is_in_flight, is_start, named}
-use Rattle.xif_session.specs.Facts as facts
+use Rattle.xif_session.specs.Facts.{past_of, same_key, issue_key, register_key, commit_key, result_key, is_issued, is_given, is_taken, issue_waits, is_undecided, is_covered, verdict_of, decision_after, new_fact, with_response, with_operands, with_end, response_on, undecided_start, has_killed, is_start, named}
 use Rattle.xif_session.specs.Uses.{Use as SessionUse, last_bus, change_latest}
 use Rattle.xif_session.specs.Uses as uses
 use Rattle.xif_session.proofs.Options.{key_is, no_true}
 use Rattle.xif_session.proofs.Whole.{whole, cycle_is, last_is, continues_same, named_agree}
 use Rattle.engine_history.specs.Lives.{Life, Verdict, new_life, latest, start_of, goes_on, starts, with_start, change_if, at_start, answer_on, accepted_in, answered, operands_on, given, is_in_group, decided_by, decided, finished, lives_of, lives_with}
 use Rattle.engine_history.specs.Told.{decision_told, fact_told, session_use}
+use Rattle.engine_history.proofs.Tests.{killed_told}
 use Rattle.engine_history.proofs.Keep.{Rising, Keeps, rising, rising_start, rising_changed, older_same, latest_map, answered_is, given_is, decided_is}
 use Rattle.engine_history.proofs.Cycle.{latest_below}
 
@@ -27,14 +27,6 @@ latest_told key (l ∷ ls) = go (same_key l.key key) (latest_told key ls)
     go : (t : Bool) → uses.latest (map session_use ls) key ≡ option_map fact_told (latest key ls) → (if t then Some (fact_told l) else uses.latest (map session_use ls) key) ≡ option_map fact_told (if t then Some l else latest key ls)
     go true r = refl
     go false r = r
-
-killed_told : (v : Option Verdict) → facts.is_killed (decision_told v) ≡ option_map_or (λ (v : Verdict). v.kill) v false
-killed_told None = refl
-killed_told (Some v) = go v.kill
-  where
-    go : (k : Bool) → facts.is_killed (verdict_of k) ≡ k
-    go true = refl
-    go false = refl
 
 continues_told : (last b : Bus) (ls : List Life) → uses.continues last (map session_use ls) b ≡ goes_on last b ls
 continues_told last b ls =

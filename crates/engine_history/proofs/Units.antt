@@ -2,7 +2,6 @@
 use Rattle.std.proofs.Common.{if◌then◌else◌, ◌≡◌, ◌++◌, ◌==◌, ◌&&◌, ◌||◌, not, ℕ, Bool, true, false, Option, Some, None, IfSome, List, [], ◌∷◌, refl, sym, ap, ap₂, ◌∙◌, subst}
 use Rattle.std.specs.Prelude.{is_none, is_some}
 use Rattle.std.specs.Option.{option_map, option_map_or}
-use Rattle.std.proofs.lemmas.Bool.{eqb-true}
 use Rattle.xif_base.specs.declared.params.Key.{Key}
 use Rattle.xif_base.specs.declared.params.Params.{Params}
 use Rattle.coproc_config.specs.declared.accept.Hit.{Hit}
@@ -15,6 +14,7 @@ use Rattle.cycle_spec.specs.declared.use_of.Use.{Use}
 use Rattle.cycle_spec.specs.Engine.{register_read_of, is_complete, is_next}
 use Rattle.engine_history.specs.Lives.{Life, Answer, Operands, Verdict, is_accepted, is_killed}
 use Rattle.engine_history.specs.Told.{hit_by, hit_told, decision_told, use_told, others, latest_uses, later, answer_cycle, operands_cycle, release_by, complete_cycle, counts, all_complete, ready_cycle, is_ready, result_told}
+use Rattle.engine_history.proofs.Tests.{killed_told, counts_hart}
 use Rattle.engine_history.proofs.Lists.{any-push}
 use Rattle.engine_history.proofs.Settle.{waits_in, blocked, is_due, Passed, drop_blocked}
 use Rattle.engine_history.proofs.Grown.{Grew, Old, Each2, later_some, complete_stays}
@@ -42,25 +42,17 @@ dressed params set (l ∷ ls) (n ∷ now) = dress (use_told params set n) (is_so
 
 -- ---- the tests of one use
 
-accepted_same : (params : Params) (set : List UnitTable) (o : Option Answer) → IfSome o (IsAnswer params set) → is_some (hit_told params set o) ≡ option_map_or (λ (a : Answer). a.response.accept) o false
-accepted_same params set None a = refl
-accepted_same params set (Some x) a = go x.response.accept (hit_of set params x.word) a.accept
+pub accepted_told : (params : Params) (set : List UnitTable) (o : Option Answer) → IfSome o (IsAnswer params set) → is_some (hit_told params set o) ≡ option_map_or (λ (a : Answer). a.response.accept) o false
+accepted_told params set None a = refl
+accepted_told params set (Some x) a = go x.response.accept (hit_of set params x.word) a.accept
   where
     go : (t : Bool) (o : Option Hit) → t ≡ is_some o → is_some (if t then o else None) ≡ t
     go true o q = sym q
     go false o q = refl
 
-killed_same : (v : Option Verdict) → facts.is_killed (decision_told v) ≡ option_map_or (λ (v : Verdict). v.kill) v false
-killed_same None = refl
-killed_same (Some v) = go v.kill
-  where
-    go : (k : Bool) → facts.is_killed (verdict_of k) ≡ k
-    go true = refl
-    go false = refl
-
 next_same : (params : Params) (set : List UnitTable) (hart : ℕ) (n : Life) (f : Bool) (r : Option ℕ) (x : ℕ) → IfSome n.answer (IsAnswer params set) → is_next hart (dress (use_told params set n) f r x) ≡ (counts hart n && is_none r)
 next_same params set hart n f r x a =
-    ap₂ (λ a k. (n.key.hart == hart) && (a && (not k && is_none r))) (accepted_same params set n.answer a) (killed_same n.verdict)
+    ap₂ (λ a k. (n.key.hart == hart) && (a && (not k && is_none r))) (accepted_told params set n.answer a) (killed_told n.verdict)
     ∙ go (n.key.hart == hart) (is_accepted n) (not (is_killed n)) (is_none r)
   where
     go : (a b c d : Bool) → (a && (b && (c && d))) ≡ ((a && (b && c)) && d)
@@ -109,9 +101,6 @@ complete_test params set n a h = go n.answer a h ∙ sym (later_some (answer_cyc
 -- a use that counts was accepted
 counts_accepted : (hart : ℕ) (n : Life) → counts hart n ≡ true → is_accepted n ≡ true
 counts_accepted hart n h = (both-true (is_accepted n) _ (both-true (n.key.hart == hart) _ h).1).0
-
-counts_hart : (hart : ℕ) (n : Life) → counts hart n ≡ true → n.key.hart ≡ hart
-counts_hart hart n h = eqb-true n.key.hart hart (both-true (n.key.hart == hart) _ h).0
 
 -- ---- which use holds back the younger ones
 

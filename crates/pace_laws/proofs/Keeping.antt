@@ -1,11 +1,10 @@
 -- Core and engine stay steady in every cycle that doesn't stop the machine.
-use Rattle.std.proofs.Common.{◌≡◌, ◌≢◌, ◌<◌, ◌≤◌, ◌==◌, ◌++◌, ◌+◌, ◌-◌, ◌⊎◌, inl, inr, ℕ, Bool, true, false, cond, List, [], ◌∷◌, map, take, length, Option, Some, None, refl, sym, ap, ◌∙◌, subst, arith}
+use Rattle.std.proofs.Common.{◌≡◌, ◌<◌, ◌≤◌, ◌==◌, ◌++◌, ◌-◌, ◌⊎◌, inl, inr, ℕ, Bool, true, false, cond, List, [], ◌∷◌, map, take, length, Option, Some, None, refl, sym, ap, ◌∙◌, subst, arith}
 use Rattle.coproc_config.specs.Set.{UnitTable}
 use Rattle.coproc_config.specs.State.{zeros}
 use Rattle.std.specs.Prelude.{zero, suc, replicate, find, is_some, nat_lt, IsSome}
-use Rattle.std.proofs.lemmas.Bool.{eq-eqb, ne_eqb, eqb-true, ltb-true}
+use Rattle.std.proofs.lemmas.Bool.{eq-eqb, eqb-true, ltb-true}
 use Rattle.std.proofs.lemmas.List.{length-map, length-take, length-drop, length-append, take-map}
-use Rattle.std.proofs.Math.Seq.{take-append-add}
 use Rattle.coproc_config.specs.Accept.{hit_of}
 use Rattle.inorder_machine.specs.declared.stop.StopCause.{StopCause}
 use Rattle.xif_signals.specs.declared.bus.Bus.{Bus}
@@ -20,7 +19,7 @@ use Rattle.cycle_spec.specs.declared.choices.Presented.{Presented}
 use Rattle.cycle_spec.specs.declared.entry.Entry.{Entry}
 use Rattle.cycle_spec.specs.declared.log.Cut.{Cut}
 use Rattle.cycle_spec.specs.declared.use_of.Use.{Use}
-use Rattle.cycle_spec.specs.Flight.{holds_id, free_id, older_than, count_through, youngest_released, with_response, with_sent, with_result, with_outcome}
+use Rattle.cycle_spec.specs.Flight.{holds_id, free_id, count_through, youngest_released, with_response, with_sent, with_result, with_outcome}
 use Rattle.cycle_spec.specs.State.{Core}
 use Rattle.cycle_spec.specs.Choices.{choices, choices_by, choices_in, choices_draining, choices_drain_begins, stop_at, stay_with}
 use Rattle.cycle_spec.specs.Core.{word_in, response_on_offer, response_step, sent_on_present, sent_step, release_step, cut_step, drain_step, result_for, result_step, execute_step, retire_step, sent_entries, kept_entries, settled_entries, with_dispatch, dispatch_of, ahead_behind, memory_behind, mode_after, next_entry}
@@ -36,8 +35,7 @@ use Rattle.cycle_lists.proofs.Places.{last-found}
 use Rattle.cycle_lists.proofs.Order.{start-kept, response-kept, sent-kept}
 use Rattle.cycle_paired.specs.Paired.{response_of, Paired}
 use Rattle.cycle_paired.specs.Reached.{begins_drain, resumes}
-use Rattle.cycle_paired.proofs.Facts.{other-numbers}
-use Rattle.cycle_paired.proofs.Choosing.{Presents, sound}
+use Rattle.cycle_paired.proofs.Choosing.{Presents, take-through, sound}
 use Rattle.cycle_paired.proofs.Lasting.{carried-at}
 use Rattle.cycle_paired.proofs.Cycling.{facts_of, cpu_for}
 use Rattle.cycle_paired.proofs.Closing.{bus_for, both_after}
@@ -218,13 +216,6 @@ taken-sent k present b es h = go (is_given b) present refl refl
       where
         one : is_given b ≡ true → present ≡ Some x → sent_step present b (take k es) ≡ map (with_sent x.entry.seq) (take k es)
         one p q = rw (p, q) refl
-
-older-at : (xs : List Entry) (e : Entry) (ys : List Entry) → Each (λ x. x.seq ≢ e.seq) xs → older_than e.seq (xs ++ e ∷ ys) ≡ xs
-older-at [] e ys h = ap (λ t. cond t [] (e ∷ older_than e.seq ys)) (eq-eqb e.seq e.seq refl)
-older-at (x ∷ xs) e ys h = ap (λ t. cond t [] (x ∷ older_than e.seq (xs ++ e ∷ ys))) (ne_eqb x.seq e.seq h.0) ∙ ap (λ l. x ∷ l) (older-at xs e ys h.1)
-
-take-through : (xs : List Entry) (e : Entry) (ys : List Entry) → Pairs Before (xs ++ e ∷ ys) → take (count_through e.seq (xs ++ e ∷ ys)) (xs ++ e ∷ ys) ≡ xs ++ e ∷ []
-take-through xs e ys b = ap (λ l. take (length l + 1) (xs ++ e ∷ ys)) (older-at xs e ys (other-numbers xs e ys b).0) ∙ take-append-add xs (e ∷ ys) 1
 
 stay-released : (es : List Entry) → Pairs Before es → LastReleased (take (stay_with (youngest_released es) es) es)
 stay-released es b = go (youngest_released es) refl

@@ -1,7 +1,7 @@
 //! The headline: what holds of every run, in one record.
 //!
-//! A run leaves what the in-order machine leaves, its coprocessors compute what retires, its signals
-//! are legal by the rules of the judge, it dispatches eagerly, and it keeps pace.
+//! A run leaves what the in-order machine leaves, its coprocessors compute what retires, its
+//! signals are legal by the rules of the judge, it dispatches eagerly, and it keeps pace.
 //! `specs/Headline.antt` says so of a run alone, and `every_run_is_faithful` of every run of
 //! `cycle_spec`: for every predictor, and for every setup that `CanRun` allows.
 //!

@@ -1,10 +1,9 @@
 -- What the core chooses for the commit channel, in facts: a kill is for the oldest use that waits
 -- for a decision.
-use Rattle.std.proofs.Common.{◌≡◌, ◌≢◌, ◌==◌, ◌&&◌, ◌||◌, ◌+◌, ◌++◌, ℕ, suc, Bool, true, false, if◌then◌else◌, not, List, [], ◌∷◌, take, drop, length, Option, Some, None, refl, sym, ap, ◌∙◌, subst, arith}
+use Rattle.std.proofs.Common.{◌≡◌, ◌==◌, ◌&&◌, ◌||◌, ◌++◌, Bool, true, false, if◌then◌else◌, not, List, [], ◌∷◌, take, drop, Option, Some, None, refl, sym, ap, ◌∙◌, subst}
 use Rattle.std.specs.Prelude.{find, is_some, IfSome}
 use Rattle.std.specs.List.{list_any}
 use Rattle.std.specs.Option.{option_or, option_and_then}
-use Rattle.std.proofs.lemmas.Bool.{eq-eqb, ne_eqb}
 use Rattle.std.proofs.lemmas.List.{take-append-drop}
 use Rattle.rv32_table.specs.declared.instr.Kind.{Kind}
 use Rattle.rv32_table.specs.declared.instr.Kind.TheVariants as row
@@ -23,7 +22,7 @@ use Rattle.cycle_spec.specs.declared.entry.Entry.{Entry}
 use Rattle.cycle_spec.specs.declared.entry.EntryKind.{EntryKind}
 use Rattle.cycle_spec.specs.declared.entry.EntryKind.TheVariants.{Local, Unknown, Nowhere}
 use Rattle.cycle_spec.specs.declared.log.Cut.{Cut}
-use Rattle.cycle_spec.specs.Flight.{is_row, is_control, is_control_row, is_store_row, is_unknown, is_unknown_kind, is_open, is_pending, is_stopping, older_than, count_through, may_execute, may_execute_kind, are_sources_here, is_held_back, ready_behind, ready_oldest, youngest_released}
+use Rattle.cycle_spec.specs.Flight.{is_row, is_control, is_control_row, is_store_row, is_unknown, is_unknown_kind, is_open, is_pending, is_stopping, count_through, may_execute_kind, are_sources_here, is_held_back, ready_oldest, youngest_released}
 use Rattle.cycle_spec.specs.State.{Core}
 use Rattle.cycle_spec.specs.Choices.{stop_at, retirement, execution, executed_entry, executed_kind, outcome_of, is_any_hit, store_cut, transfer_cut, control_cut, offer_in, kill_among, choices_with, choices_running, choices_stopping, choices_by, choices_in, choices, stay_with}
 use Rattle.cycle_spec.specs.Core.{cut_step, drain_step}
@@ -33,8 +32,8 @@ use Rattle.cycle_lists.proofs.Tests.{and-left, and-right, and-false, not-both, n
 use Rattle.cycle_lists.proofs.Every.{Each-both, Each-append, Each-front, Each-at, Pairs-older}
 use Rattle.cycle_lists.proofs.Places.{any-none, last-found}
 use Rattle.cycle_paired.specs.Paired.{IsEntry, Behind}
-use Rattle.cycle_paired.proofs.Facts.{other-numbers, safe-accepted}
-use Rattle.cycle_paired.proofs.Choosing.{Facts, CertainAt, Way, Quiet, Releases, Cuts, Presents, sound}
+use Rattle.cycle_paired.proofs.Facts.{safe-accepted}
+use Rattle.cycle_paired.proofs.Choosing.{Facts, CertainAt, Way, Quiet, Releases, Cuts, Presents, ReadyAt, ready-at, take-through, sound}
 
 -- a use that was accepted before a released one is released
 abbrev pub InOrder : Entry → Entry → Type 0
@@ -59,17 +58,6 @@ pub record Chosen (split : Bool) (es : List Entry) (ch : Choices) : Type 0 where
 -- an entry without a response
 local-calm : (e : Entry) → IsEntry e → is_unknown e ≡ false → IsCalm e
 local-calm e ok n = false-or (is_pending e) (λ k. not-both (is_unknown e) n (ok.answered (and-left (is_some e.response) (not e.released) k)))
-
-older-at : (xs : List Entry) (e : Entry) (ys : List Entry) → Each (λ x. x.seq ≢ e.seq) xs → older_than e.seq (xs ++ e ∷ ys) ≡ xs
-older-at [] e ys h = ap (λ t. if t then [] else e ∷ older_than e.seq ys) (eq-eqb e.seq e.seq refl)
-older-at (x ∷ xs) e ys h = ap (λ t. if t then [] else x ∷ older_than e.seq (xs ++ e ∷ ys)) (ne_eqb x.seq e.seq h.0) ∙ ap (λ l. x ∷ l) (older-at xs e ys h.1)
-
-take-through : (xs : List Entry) (e : Entry) (ys : List Entry) → Pairs Before (xs ++ e ∷ ys) → take (count_through e.seq (xs ++ e ∷ ys)) (xs ++ e ∷ ys) ≡ xs ++ e ∷ []
-take-through xs e ys b = ap (λ l. take (length l + 1) (xs ++ e ∷ ys)) (older-at xs e ys (other-numbers xs e ys b).0) ∙ (let one : length xs + 1 ≡ suc (length xs) = omega arith in ap (λ n. take n (xs ++ e ∷ ys)) one) ∙ go xs
-  where
-    go : (zs : List Entry) → take (suc (length zs)) (zs ++ e ∷ ys) ≡ zs ++ e ∷ []
-    go [] = refl
-    go (z ∷ zs) = ap (λ l. z ∷ l) (go zs)
 
 -- before a released entry
 released-calm : (x p : Entry) → p.released ≡ true → IsEntry x → Behind x p → InOrder x p → IsCalm x
@@ -116,34 +104,6 @@ store-calm (e ∷ es) c ok h = go e.done h
         by (Some s) q r =
             subst (λ d. Each IsCalm (take d.keep (e ∷ es))) r.1
             (local-calm e ok.0 (store-known e.kind (ok.0.stores (ap is_some q))), tt)
-
--- the entry that executes, in its place
-record ReadyAt (dual : Bool) (registers : List ℕ) (before es : List Entry) (e : Entry) : Type 0 where
-  pub older : List Entry
-  pub younger : List Entry
-  pub here : es ≡ older ++ e ∷ younger
-  pub may : may_execute dual registers (before ++ older) e ≡ true
-
-ready-at : (dual : Bool) (registers : List ℕ) (before es : List Entry) (e : Entry) → ready_behind dual registers before es ≡ Some e → ReadyAt dual registers before es e
-ready-at dual registers before [] e h = cc
-ready-at dual registers before (x ∷ xs) e h = go (may_execute dual registers before x) refl h (λ k. ready-at dual registers (before ++ x ∷ []) xs e k)
-  where
-    nil : (ys : List Entry) → ys ++ [] ≡ ys
-    nil [] = refl
-    nil (y ∷ ys) = ap (λ l. y ∷ l) (nil ys)
-
-    joined : (ys zs : List Entry) → (ys ++ x ∷ []) ++ zs ≡ ys ++ x ∷ zs
-    joined [] zs = refl
-    joined (y ∷ ys) zs = ap (λ l. y ∷ l) (joined ys zs)
-
-    go : (t : Bool) → may_execute dual registers before x ≡ t → (if t then Some x else ready_behind dual registers (before ++ x ∷ []) xs) ≡ Some e
-        → (ready_behind dual registers (before ++ x ∷ []) xs ≡ Some e → ReadyAt dual registers (before ++ x ∷ []) xs e) → ReadyAt dual registers before (x ∷ xs) e
-    go true q k ih =
-        let same : x ≡ e = some-is x e k in
-        record { older = []; younger = xs; here = ap (λ y. y ∷ xs) same; may = ap (λ l. may_execute dual registers l e) (nil before) ∙ ap (may_execute dual registers before) (sym same) ∙ q }
-    go false q k ih =
-        let r = ih k in
-        record { older = x ∷ r.older; younger = r.younger; here = ap (λ l. x ∷ l) r.here; may = ap (λ l. may_execute dual registers l e) (sym (joined before r.older)) ∙ r.may }
 
 control-free : (k : Kind) (older : List Entry) → is_control_row k ≡ true → not (is_held_back k older) ≡ true → list_any is_pending older ≡ false
 control-free row.Control older c h = not-in (list_any is_pending older) h

@@ -16,7 +16,6 @@ pub mod Stable
 pub mod Flags
 pub mod Words
 pub mod Presents
-pub mod SmallRows
 pub mod SmallCore
 pub mod SmallEngine
 pub mod Shown

@@ -42,7 +42,8 @@ use Rattle.trace_laws.proofs.Linked as links
 use Rattle.trace_laws.proofs.Releases.{order_after}
 use Rattle.trace_laws.proofs.Paths.{Fit}
 use Rattle.trace_laws.proofs.Presents.{known}
-use Rattle.trace_laws.proofs.SmallRows.{IsWord, IsByte}
+use Rattle.width_laws.proofs.Memories.{IsByte}
+use Rattle.width_laws.proofs.Operands.{IsWord}
 use Rattle.trace_laws.proofs.SmallCore.{SmallCore, WordEntry, core-small}
 use Rattle.trace_laws.proofs.SmallEngine.{SmallEngine, offered-small, engine-small, new-small}
 use Rattle.trace_laws.proofs.Shown.{Operands, Grows}

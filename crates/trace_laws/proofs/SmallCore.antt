@@ -1,6 +1,6 @@
 -- Registers, and what entries write to them, are words, and the memory has bytes: each cycle of the
 -- core keeps this.
-use Rattle.std.proofs.Common.{◌≡◌, ◌<◌, ◌+◌, ◌-◌, ◌++◌, ◌==◌, ◌/◌, ◌^◌, ◌&&◌, not, ℕ, zero, suc, Bool, true, false, if◌then◌else◌, Option, Some, None, List, [], ◌∷◌, map, take, drop, length, slice_index, refl, arith, lit<}
+use Rattle.std.proofs.Common.{◌≡◌, ◌<◌, ◌+◌, ◌-◌, ◌++◌, ◌==◌, ◌/◌, ◌^◌, ◌&&◌, not, ℕ, zero, suc, Bool, true, false, if◌then◌else◌, Option, Some, None, List, [], ◌∷◌, map, take, drop, length, slice_index, refl, subst, arith, lit<}
 use Rattle.std.specs.Prelude.{find, is_some, IfSome, slice_index_or, slice_set}
 use Rattle.std.specs.Option.{option_map_or, option_and_then}
 use Rattle.std.specs.Int.{w32, to_le_bytes}
@@ -39,10 +39,12 @@ use Rattle.cycle_lists.proofs.Every.{Each-from, Each-map, Each-append, Each-push
 use Rattle.cycle_lists.proofs.Places.{last-found}
 use Rattle.trace_laws.proofs.Paths.{Fit}
 use Rattle.trace_laws.proofs.Views.{Each-older}
-use Rattle.trace_laws.proofs.SmallRows.{IsWord, IsByte, WordWrite, WordOutcome, decoded-immediate, executed-word}
+use Rattle.width_laws.proofs.Memories.{IsByte}
+use Rattle.width_laws.proofs.Rows.{AreWritten, IsOutcome, HasImmediate, decoded-immediate, executed-words}
+use Rattle.width_laws.proofs.Operands.{IsWord}
 
 abbrev pub WordEntry : Entry → Type 0
-WordEntry e = WordWrite e.write
+WordEntry e = AreWritten e.write
 
 pub record SmallCore (w : Core) : Type 0 where
   pub registers : Each IsWord w.registers
@@ -73,7 +75,7 @@ register-small registers r h = go (r == 0)
     go true = zero-small
     go false = Each-or IsWord registers r 0 zero-small h
 
-value-small : (w : Write) (r : ℕ) → WordWrite w → IsWord (value_in w r)
+value-small : (w : Write) (r : ℕ) → AreWritten w → IsWord (value_in w r)
 value-small write.None r h = zero-small
 value-small (write.One rd v) r h = h
 value-small (write.Pair rd low high) r h = go (r == rd)
@@ -123,7 +125,7 @@ abbrev Decoded : Entry → Type 0
 Decoded e = (i : Instr) → e.kind ≡ Local i → decoded e.word ≡ Some i
 
 abbrev WordExecuted : Executed → Type 0
-WordExecuted x = WordOutcome x.outcome
+WordExecuted x = IsOutcome x.outcome
 
 execution-word : (w : Core) (es : List Entry) → SmallCore w → Each Decoded es → IfSome (execution w es) WordExecuted
 execution-word w es s d = go (ready_oldest w.params.dual_write w.registers es) (ready-each Decoded w.params.dual_write w.registers [] es d)
@@ -132,7 +134,7 @@ execution-word w es s d = go (ready_oldest w.params.dual_write w.registers es) (
     source e o = source-small w.params.dual_write w.registers (older_than e.seq w.flight) o s.registers (Each-older WordEntry e.seq w.flight s.writes)
 
     by : (e : Entry) (k : EntryKind) → e.kind ≡ k → Decoded e → IfSome (executed_kind w e k) WordExecuted
-    by e (Local i) q f = executed-word w.memory (record { pc = e.pc; word = e.word }) i (source_value w e (sources_of i).0) (source_value w e (sources_of i).1) s.bytes (source e (sources_of i).0) (source e (sources_of i).1) (decoded-immediate e.word i (f i q))
+    by e (Local i) q f = executed-words w.memory (record { pc = e.pc; word = e.word }) i (source_value w e (sources_of i).0) (source_value w e (sources_of i).1) s.bytes (subst HasImmediate (f i q) (decoded-immediate e.word)) (source e (sources_of i).0) (source e (sources_of i).1)
     by e Unknown q f = tt
     by e Nowhere q f = tt
 
@@ -191,7 +193,7 @@ IsWide n = n < 2 ^ 64
 abbrev pub HighSmall : (flags value : ℕ) → Type 0
 HighSmall flags value = has_flag flags 1 ≡ true → IsWide value
 
-unit_write-word : (rd flags value : ℕ) → HighSmall flags value → WordWrite (unit_write rd flags value)
+unit_write-word : (rd flags value : ℕ) → HighSmall flags value → AreWritten (unit_write rd flags value)
 unit_write-word rd flags value h = go (rd == 0) (has_flag flags 0) (has_flag flags 1) h
   where
     low : IsWord (low_half value)
@@ -200,7 +202,7 @@ unit_write-word rd flags value h = go (rd == 0) (has_flag flags 0) (has_flag fla
     high : value < 2 ^ 64 → IsWord (high_half value)
     high k = omega (arith, k)
 
-    go : (z a b : Bool) → (b ≡ true → value < 2 ^ 64) → WordWrite (if z then write.None else halves_write a b rd value)
+    go : (z a b : Bool) → (b ≡ true → value < 2 ^ 64) → AreWritten (if z then write.None else halves_write a b rd value)
     go true a b k = tt
     go false false false k = tt
     go false true false k = low
@@ -209,7 +211,7 @@ unit_write-word rd flags value h = go (rd == 0) (has_flag flags 0) (has_flag fla
 
 -- ---- the steps
 
-chosen-word : (t : Bool) (a b : Write) → WordWrite a → WordWrite b → WordWrite (if t then a else b)
+chosen-word : (t : Bool) (a b : Write) → AreWritten a → AreWritten b → AreWritten (if t then a else b)
 chosen-word true a b h k = h
 chosen-word false a b h k = k
 
@@ -250,7 +252,7 @@ module _ (ch : Choices) (b : Bus) (wide : HighSmall b.result_we b.result_data) (
   executed None es x h = h
   executed (Some y) es x h = go y.outcome x
     where
-      go : (o : Stepped) → WordOutcome o → Each WordEntry (map (with_outcome y.entry.seq o) es)
+      go : (o : Stepped) → IsOutcome o → Each WordEntry (map (with_outcome y.entry.seq o) es)
       go (Retired line) z = mapped (with_outcome y.entry.seq (Retired line)) es (λ x k. chosen-word (has_seq y.entry.seq x) line.write x.write z k) h
       go (Stop cause) z = mapped (with_outcome y.entry.seq (Stop cause)) es (λ x k. k) h
 
@@ -268,7 +270,7 @@ module _ (ch : Choices) (b : Bus) (wide : HighSmall b.result_we b.result_data) (
 
 -- ---- retirement
 
-written-registers : (registers : List ℕ) (w : Write) → Each IsWord registers → WordWrite w → Each IsWord (registers_after registers w)
+written-registers : (registers : List ℕ) (w : Write) → Each IsWord registers → AreWritten w → Each IsWord (registers_after registers w)
 written-registers registers write.None h k = h
 written-registers registers (write.One rd v) h k = Each-set IsWord registers rd v k h
 written-registers registers (write.Pair rd low high) h k = Each-set IsWord (slice_set registers rd low) (rd + 1) high k.1 (Each-set IsWord registers rd low k.0 h)

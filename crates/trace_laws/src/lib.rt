@@ -5,13 +5,13 @@
 //! and `specs/Sessions.antt` the sessions of both. The laws are those of `src/laws.rt`, each the
 //! contract of a call that does nothing.
 //!
-//! How it is proved: the engine's uses are the latest uses of their keys, as the buses tell them
+//! How it is proved: the engine's uses are the latest uses of their keys, as the buses show them
 //! (`proofs/EngineTold.antt`), and each step of a cycle keeps this. The live entries of the core
-//! are the live uses of the engine (`cycle_paired`), so the buses tell the same of them
+//! are the live uses of the engine (`cycle_paired`), so the buses show the same of them
 //! (`proofs/CoreRules.antt`). What a register transaction shows stays because a register that is
 //! there for an instruction in flight stays there (`proofs/Views.antt`); and each half of a lane
 //! shows through what the other half is, since registers, and what entries and results write to
-//! them, are words (`proofs/SmallCore.antt`, `proofs/SmallEngine.antt`).
+//! them, are words (`width_laws`, `proofs/SmallCore.antt`, `proofs/SmallEngine.antt`).
 #![tactic(auto)]
 
 mod laws;
