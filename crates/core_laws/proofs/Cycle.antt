@@ -43,12 +43,15 @@ use Rattle.trace_laws.proofs.SmallCore.{SmallCore, core-small}
 use Rattle.trace_laws.proofs.Shown.{Operands}
 use Rattle.trace_laws.proofs.Shown as shown
 use Rattle.trace_laws.proofs.ShownAfter.{operands_after}
-use Rattle.core_laws.specs.Answered.{IsAnswer}
 use Rattle.core_laws.proofs.Ghost.{hit_with, readied_with, told_after, Ends}
 use Rattle.core_laws.proofs.Told.{quiet}
 use Rattle.core_laws.proofs.Told as told
 use Rattle.core_laws.proofs.Joined as joined
 use Rattle.core_laws.proofs.Linked as links
+
+-- nothing is asked for of a refused word
+abbrev pub IsPlain : Bus → Type 0
+IsPlain b = b.issue_accept ≡ false → b.issue_register_read ≡ 0
 
 -- what is said of a core, and of what its coprocessor has seen
 pub record Held (hart : ℕ) (w : Core) (g : Engine) (p : Past) : Type 0 where
@@ -85,7 +88,7 @@ module _ (hart : ℕ) (w : Core) (g : Engine) (p : Past) (cop : CopOut) (k : Hel
   hart_on true = k.below
   hart_on false = let l = k.below in omega arith
 
-  -- of the same core beside the engine
+  -- what the registers show is the core's alone: as beside the engine
   g4 : HoldsG4 w.params p (bus_with hart w cop)
   g4 h lane l = let x = shown.keeps_g4 hart m p k.paired c (subst IsInRange (sym k.paired.params) k.range) k.words k.operands h lane l in record { low = x.low; high = x.high }
 
@@ -111,7 +114,7 @@ module _ (hart : ℕ) (w : Core) (g : Engine) (p : Past) (cop : CopOut) (k : Hel
   pub orderly : Orderly g.params p (bus_with hart w cop)
   orderly = let x = keeps in record { hart = x.issue_hart; i1 = x.i1; i2 = x.i2; g1 = x.g1 }
 
-  module _ (a : IsAnswer cop) (eng : EngineKeeps g.params p (bus_with hart w cop)) where
+  module _ (plain : IsPlain (bus_with hart w cop)) (eng : EngineKeeps g.params p (bus_with hart w cop)) where
     says : is_issued bus ≡ true → response_on bus ≡ answer (hit_with cop)
     says h = go cop.issue_accept refl
       where
@@ -120,7 +123,7 @@ module _ (hart : ℕ) (w : Core) (g : Engine) (p : Past) (cop : CopOut) (k : Hel
         go true q = refl
         go false q =
             ap (λ n. record { accept = false; writeback = record { 0 = n }; register_read = record { 0 = cop.issue_register_read } }) (eng.i3 h q)
-            ∙ ap (λ n. record { accept = false; writeback = record { 0 = 0 }; register_read = record { 0 = n } }) (a.refused q)
+            ∙ ap (λ n. record { accept = false; writeback = record { 0 = 0 }; register_read = record { 0 = n } }) (plain q)
 
     joins : w.params.split ≡ false → is_some ch.offer ≡ true → is_some ch.present ≡ true → (is_some ch.offer && cop.issue_ready) ≡ (is_some ch.present && cop.register_ready)
     joins s i r =

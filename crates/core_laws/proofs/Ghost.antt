@@ -1,4 +1,4 @@
--- What a coprocessor is told, kept as the uses of an engine: each step of the engine on its uses,
+-- What a coprocessor has seen, kept as the uses of an engine: each step of the engine on its uses,
 -- with the answers of any coprocessor. A use has its result as soon as it may give it.
 use Rattle.std.proofs.Common.{◌≡◌, ◌+◌, ◌&&◌, Bool, true, false, if◌then◌else◌, Option, Some, None, List, [], ◌∷◌, map, refl}
 use Rattle.std.specs.Prelude.{is_some}

@@ -1,4 +1,4 @@
--- The core and what its coprocessor is told stay paired in every cycle.
+-- The core and what its coprocessor has seen stay paired in every cycle.
 use Rattle.std.proofs.Common.{◌≡◌, ◌&&◌, ◌+◌, ℕ, Bool, true, false, cond, not, List, map, Option, Some, None, refl, sym, ap, ◌∙◌, subst}
 use Rattle.std.specs.Prelude.{is_some, IfSome, find}
 use Rattle.xif_image.specs.Region.{word_at}

@@ -1,4 +1,4 @@
--- What a coprocessor is told stays what the buses say, in every cycle in which it keeps its rules.
+-- What a coprocessor has seen stays what the buses say, in every cycle in which it keeps its rules.
 use Rattle.std.proofs.Common.{◌≡◌, ◌+◌, ◌==◌, ◌&&◌, ◌||◌, not, ℕ, Bool, true, false, if◌then◌else◌, Option, Some, None, List, [], ◌∷◌, map, refl, sym, ap, ◌∙◌, subst}
 use Rattle.std.specs.Prelude.{is_some, IfSome, IsSomeAnd}
 use Rattle.std.specs.List.{list_any}

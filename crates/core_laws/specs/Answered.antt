@@ -1,5 +1,5 @@
--- The core beside any coprocessor: whatever answers what it drives.
-use Rattle.std.specs.Prelude.{◌≡◌, ◌<◌, ◌^◌, ℕ, false, None, List, [], ◌∷◌}
+-- The core beside any coprocessor.
+use Rattle.std.specs.Prelude.{◌≡◌, ◌<◌, ◌^◌, ℕ, None, List, [], ◌∷◌}
 use Rattle.xif_signals.specs.declared.bus.Bus.{Bus}
 use Rattle.xif_signals.specs.declared.bus.CopOut.{CopOut}
 use Rattle.cycle_spec.specs.State.{Core}
@@ -7,19 +7,15 @@ use Rattle.cycle_spec.specs.Choices.{choices}
 use Rattle.cycle_spec.specs.Core.{core_clock, drain_begun, resumed}
 use Rattle.trace_laws.specs.Driven.{bus_with, seen_with}
 
--- What answers asks for no registers of a word that it refuses.
-pub record IsAnswer (cop : CopOut) : Type 0 where
-  pub refused : cop.issue_accept ≡ false → cop.issue_register_read ≡ 0
-
--- The core of a hart goes on from a first state, and has put these buses, the newest first:
--- through cycles in which nothing stops it, whatever its predictor and the coprocessor answer;
--- between cycles a drain may begin or end.
+-- The core of a hart has gone on from a first state to another, with these buses, the newest first:
+-- by cycles in which nothing stops it, whatever its predictor answers, and whatever the coprocessor
+-- drives, but that its result fits in 64 bits, the most that `result.data` may have; between cycles
+-- a drain may begin or end.
 pub data Answered (hart : ℕ) (first : Core) : Core → List Bus → Type 0 where
   First : Answered hart first first []
   Cycled
       : (w : Core) (session : List Bus) (answer : (pc word : ℕ) → ℕ) (cop : CopOut)
-      → IsAnswer cop → cop.result_data < 2 ^ 64
-      → Answered hart first w session → (choices w).stop ≡ None
+      → cop.result_data < 2 ^ 64 → Answered hart first w session → (choices w).stop ≡ None
       → Answered hart first (core_clock answer w (seen_with w cop))
       (bus_with hart w cop ∷ session)
   Drained

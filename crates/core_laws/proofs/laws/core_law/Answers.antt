@@ -1,4 +1,4 @@
-use Rattle.core_laws.proofs.Halves.{core-half}
+use Rattle.core_laws.proofs.Whole.{core-half}
 use Rattle.core_laws.proofs.laws.core_law.Goals as goal
 
 pub returns : goal.returns
