@@ -1,8 +1,9 @@
 -- The core keeps its rules in a cycle, beside a coprocessor that keeps its own, and what is said of
 -- both goes on.
-use Rattle.std.proofs.Common.{◌≡◌, ◌<◌, ◌==◌, ◌&&◌, ℕ, Bool, true, false, if◌then◌else◌, Option, Some, None, refl, sym, ap, ◌∙◌, subst, arith}
+use Rattle.std.proofs.Common.{◌≡◌, ◌<◌, ◌^◌, ◌==◌, ◌&&◌, ℕ, Bool, true, false, if◌then◌else◌, Option, Some, None, refl, sym, ap, ◌∙◌, subst, arith}
 use Rattle.std.specs.Prelude.{is_some, IfSome}
 use Rattle.std.specs.Option.{option_map}
+use Rattle.xif_base.specs.Params.{IsInRange}
 use Rattle.coproc_config.specs.declared.accept.Hit.{Hit}
 use Rattle.xif_signals.specs.declared.bus.Bus.{Bus}
 use Rattle.xif_signals.specs.declared.bus.CpuOut.{CpuOut}
@@ -11,8 +12,8 @@ use Rattle.xif_signals.specs.declared.bus.CpuIn.{CpuIn}
 use Rattle.xif_session.specs.declared.fact.Response.{Response}
 use Rattle.xif_session.specs.declared.fact.Fact.{Fact}
 use Rattle.xif_session.specs.Facts.{Past, past_after, same_key, issue_key, register_key, is_issued, is_given, is_start, starts_key, named, answered_on, given_on, decided_on, effective_start, with_response, with_operands, with_decision, response_on}
-use Rattle.xif_session.specs.Rules.{HasOperands}
-use Rattle.xif_session.specs.Legal.{EngineKeeps}
+use Rattle.xif_session.specs.Rules.{HasOperands, HoldsG4}
+use Rattle.xif_session.specs.Legal.{CoreKeeps, EngineKeeps}
 use Rattle.xif_session.proofs.Options.{was_of, same_some, both-true, and-true, key_is, key_same}
 use Rattle.cycle_spec.specs.declared.choices.Choices.{Choices}
 use Rattle.cycle_spec.specs.declared.choices.Presented.{Presented}
@@ -29,6 +30,7 @@ use Rattle.cycle_paired.proofs.Facts.{waiting-accepted, waiting-live}
 use Rattle.cycle_paired.proofs.Matching.{found}
 use Rattle.cycle_paired.proofs.Choosing.{Presents, sound}
 use Rattle.cycle_paired.proofs.Cycling.{facts_of, cpu_for}
+use Rattle.trace_laws.specs.Driven.{bus_with, seen_with}
 use Rattle.trace_laws.proofs.EngineTold.{Orderly, answer, AnsweredBy, EngineTold, fact_of, not-none}
 use Rattle.trace_laws.proofs.EngineSteps.{IsServed, named_other}
 use Rattle.trace_laws.proofs.CoreChosen.{InOrder, Chosen, chosen}
@@ -36,20 +38,32 @@ use Rattle.trace_laws.proofs.CoreRules.{Linked, some_case, if_at, offered_apart}
 use Rattle.trace_laws.proofs.CoreRules as rules
 use Rattle.trace_laws.proofs.CoreCommits as commits
 use Rattle.trace_laws.proofs.Releases.{order_after}
-use Rattle.core_laws.specs.Answered.{bus_with, seen_with, IsAnswer, Keeps}
+use Rattle.trace_laws.proofs.Presents.{known}
+use Rattle.trace_laws.proofs.SmallCore.{SmallCore, core-small}
+use Rattle.trace_laws.proofs.Shown.{Operands}
+use Rattle.trace_laws.proofs.Shown as shown
+use Rattle.trace_laws.proofs.ShownAfter.{operands_after}
 use Rattle.core_laws.proofs.Ghost.{hit_with, readied_with, told_after, Ends}
 use Rattle.core_laws.proofs.Told.{quiet}
 use Rattle.core_laws.proofs.Told as told
 use Rattle.core_laws.proofs.Joined as joined
 use Rattle.core_laws.proofs.Linked as links
 
--- what is said of a core and of what its coprocessor was told
+-- nothing is asked for of a refused word
+abbrev pub IsPlain : Bus → Type 0
+IsPlain b = b.issue_accept ≡ false → b.issue_register_read ≡ 0
+
+-- what is said of a core, and of what its coprocessor has seen
 pub record Held (hart : ℕ) (w : Core) (g : Engine) (p : Past) : Type 0 where
   pub paired : Paired hart (record { core = w; engine = g })
   pub told : EngineTold g g.params.num_harts (quiet p)
   pub linked : Linked paired.answered p.facts
   pub released : Pairs InOrder w.flight
   pub below : hart < g.params.num_harts
+  pub range : IsInRange g.params
+  -- of what its registers show
+  pub operands : Operands w p
+  pub words : SmallCore w
 
 module _ (hart : ℕ) (w : Core) (g : Engine) (p : Past) (cop : CopOut) (k : Held hart w g p) where
   abbrev m : Machines
@@ -74,7 +88,11 @@ module _ (hart : ℕ) (w : Core) (g : Engine) (p : Past) (cop : CopOut) (k : Hel
   hart_on true = k.below
   hart_on false = let l = k.below in omega arith
 
-  pub keeps : Keeps g.params p (bus_with hart w cop)
+  -- what the registers show is the core's alone: as beside the engine
+  g4 : HoldsG4 w.params p (bus_with hart w cop)
+  g4 h lane l = let x = shown.keeps_g4 hart m p k.paired c (subst IsInRange (sym k.paired.params) k.range) k.words k.operands h lane l in record { low = x.low; high = x.high }
+
+  pub keeps : CoreKeeps g.params p (bus_with hart w cop)
   keeps =
       let o = rules.orderly hart m (quiet p) k.paired k.told k.linked k.below c in
       let c3 = commits.keeps_c3 hart m (quiet p) k.paired k.told k.linked k.below c in
@@ -86,6 +104,8 @@ module _ (hart : ℕ) (w : Core) (g : Engine) (p : Past) (cop : CopOut) (k : Hel
         i2 = o.i2;
         g1 = record { valid = o.g1.valid; key = o.g1.key };
         g2 = rules.keeps_g2 hart m (quiet p) k.paired k.told k.linked k.below c;
+        g3 = shown.keeps_g3 hart m p k.paired c k.operands;
+        g4 = subst (λ x. HoldsG4 x p (bus_with hart w cop)) k.paired.params g4;
         c1 = commits.keeps_c1 hart m (quiet p) k.paired k.told k.linked k.below c;
         c2 = commits.keeps_c2 hart m (quiet p) k.paired k.told k.linked k.below c;
         c3 = record { unreleased = c3.unreleased; in_order = c3.in_order };
@@ -94,7 +114,7 @@ module _ (hart : ℕ) (w : Core) (g : Engine) (p : Past) (cop : CopOut) (k : Hel
   pub orderly : Orderly g.params p (bus_with hart w cop)
   orderly = let x = keeps in record { hart = x.issue_hart; i1 = x.i1; i2 = x.i2; g1 = x.g1 }
 
-  module _ (a : IsAnswer cop) (eng : EngineKeeps g.params p (bus_with hart w cop)) where
+  module _ (plain : IsPlain (bus_with hart w cop)) (eng : EngineKeeps g.params p (bus_with hart w cop)) where
     says : is_issued bus ≡ true → response_on bus ≡ answer (hit_with cop)
     says h = go cop.issue_accept refl
       where
@@ -103,7 +123,7 @@ module _ (hart : ℕ) (w : Core) (g : Engine) (p : Past) (cop : CopOut) (k : Hel
         go true q = refl
         go false q =
             ap (λ n. record { accept = false; writeback = record { 0 = n }; register_read = record { 0 = cop.issue_register_read } }) (eng.i3 h q)
-            ∙ ap (λ n. record { accept = false; writeback = record { 0 = 0 }; register_read = record { 0 = n } }) (a.refused q)
+            ∙ ap (λ n. record { accept = false; writeback = record { 0 = 0 }; register_read = record { 0 = n } }) (plain q)
 
     joins : w.params.split ≡ false → is_some ch.offer ≡ true → is_some ch.present ≡ true → (is_some ch.offer && cop.issue_ready) ≡ (is_some ch.present && cop.register_ready)
     joins s i r =
@@ -172,15 +192,19 @@ module _ (hart : ℕ) (w : Core) (g : Engine) (p : Past) (cop : CopOut) (k : Hel
             ap (λ z. is_some z.response) (sym was.becomes) ∙ ap (λ t. is_some (if t then Some (response_on bus) else was.was.response)) test
 
     ends : cop.result_valid ≡ true → Ends cop (readied_with g cpu cop)
-    ends = told.ends g p cpu cop input k.told orderly says serves eng.r3 eng.r4
+    ends = told.ends g p cpu cop input k.told orderly says serves eng.r3 eng.r4 eng.r5
 
-    pub held : (answer : ℕ → ℕ → ℕ) → (choices w).stop ≡ None → Held hart (core_clock answer w (seen_with w cop)) (told_after g (cpu_for hart (choices w)) cop (core_accepts w cop)) (past_after p (bus_with hart w cop))
-    held answer s =
+    pub held : (answer : ℕ → ℕ → ℕ) → (choices w).stop ≡ None → cop.result_data < 2 ^ 64 → Held hart (core_clock answer w (seen_with w cop)) (told_after g (cpu_for hart (choices w)) cop (core_accepts w cop)) (past_after p (bus_with hart w cop))
+    held answer s wide =
         let so = sound w (facts_of hart m k.paired) s in
+        let kn = known hart m p cop k.paired c so eng (joined.finishing hart m cop k.paired so joins says ends) k.operands.fit k.operands.count in
         record {
           paired = joined.after-paired hart m cop k.paired so joins says ends answer;
-          told = told.kept g p cpu cop input k.told orderly says serves eng.r3 eng.r4;
+          told = told.kept g p cpu cop input k.told orderly says serves eng.r3 eng.r4 eng.r5;
           linked = links.linked_after g p cpu cop input k.told orderly k.paired.answered k.linked (joined.after-paired hart m cop k.paired so joins says ends answer).answered (joined.after-marked hart m cop k.paired so joins says ends answer);
           released = order_after answer w (choices w) (seen_with w cop) k.paired.order.pairs k.paired.behind c.offer k.released;
           below = k.below;
+          range = k.range;
+          operands = operands_after hart m p cop k.paired c answer kn k.words;
+          words = core-small answer w (seen_with w cop) w.params.dual_write (λ h. wide) k.operands.fit k.words;
         }

@@ -1,4 +1,4 @@
--- What a coprocessor is told, kept as the uses of an engine: each step of the engine on its uses,
+-- What a coprocessor has seen, kept as the uses of an engine: each step of the engine on its uses,
 -- with the answers of any coprocessor. A use has its result as soon as it may give it.
 use Rattle.std.proofs.Common.{◌≡◌, ◌+◌, ◌&&◌, Bool, true, false, if◌then◌else◌, Option, Some, None, List, [], ◌∷◌, map, refl}
 use Rattle.std.specs.Prelude.{is_some}
@@ -10,7 +10,7 @@ use Rattle.xif_signals.specs.declared.bus.CpuIn.{CpuIn}
 use Rattle.cycle_spec.specs.declared.use_of.Use.{Use}
 use Rattle.cycle_spec.specs.Turns.{transactions_after}
 use Rattle.cycle_spec.specs.State.{Engine}
-use Rattle.cycle_spec.specs.Engine.{is_accepted, is_complete, has_operands, latest, started_uses, issue_start, answer_step, given_step, decide_step, ended, owner_if}
+use Rattle.cycle_spec.specs.Engine.{is_accepted, is_complete, has_operands, latest, started_uses, issue_start, answer_step, given_step, decide_step, ended, owner_if, writeback_of}
 use Rattle.xif_session.specs.Facts.{is_released}
 use Rattle.cycle_lists.proofs.Tests.{and-left, and-right}
 use Rattle.cycle_paired.proofs.Applying.{Readied, AllReadied}
@@ -74,6 +74,7 @@ pub record Ends (cop : CopOut) (us : List Use) : Type 0 where
   pub key_is : one.key ≡ result_key cop
   pub ready : is_some one.ready ≡ true
   pub unfinished : one.finished ≡ false
+  pub writes : cop.result_we ≡ writeback_of one.hit
 
 -- ---- those that are ready
 

@@ -1,4 +1,4 @@
--- The core and what its coprocessor is told stay paired in every cycle.
+-- The core and what its coprocessor has seen stay paired in every cycle.
 use Rattle.std.proofs.Common.{◌≡◌, ◌&&◌, ◌+◌, ℕ, Bool, true, false, cond, not, List, map, Option, Some, None, refl, sym, ap, ◌∙◌, subst}
 use Rattle.std.specs.Prelude.{is_some, IfSome, find}
 use Rattle.xif_image.specs.Region.{word_at}
@@ -17,7 +17,7 @@ use Rattle.cycle_spec.specs.declared.use_of.Use.{Use}
 use Rattle.cycle_spec.specs.Flight.{is_open, free_id, holds_id}
 use Rattle.cycle_spec.specs.State.{Core, Engine}
 use Rattle.cycle_spec.specs.Choices.{choices}
-use Rattle.cycle_spec.specs.Core.{id_in, word_in, sent_on_present, release_step, cut_step, drain_step, memory_behind, ahead_behind, with_dispatch, dispatch_of, settled_entries, core_clock, core_accepts}
+use Rattle.cycle_spec.specs.Core.{id_in, word_in, sent_on_present, release_step, cut_step, drain_step, kept_entries, memory_behind, ahead_behind, with_dispatch, dispatch_of, settled_entries, core_clock, core_accepts}
 use Rattle.cycle_spec.specs.Engine.{latest, issue_start, with_answer, given_to, lanes_on, start_step, goes_on, started_uses, ended}
 use Rattle.cycle_spec.specs.Cycle.{Machines, hart_if}
 use Rattle.cycle_lists.specs.Lists.{Each, FirstAt}
@@ -33,7 +33,9 @@ use Rattle.cycle_paired.proofs.Deciding.{Decided, decided_for, deciding-offered,
 use Rattle.cycle_paired.proofs.Lasting.{Late, Last, late-decided, late-result, late-executed, late-retired, late-last, result_with}
 use Rattle.cycle_paired.proofs.Cycling.{facts_of, joint_of, cpu_for, answer_on, sent_entries, sent_uses}
 use Rattle.cycle_paired.proofs.Same.{settled-is, settled_for, writes, waits-for}
-use Rattle.core_laws.specs.Answered.{seen_with}
+use Rattle.trace_laws.specs.Driven.{seen_with}
+use Rattle.trace_laws.proofs.Paths.{Finishing}
+use Rattle.trace_laws.proofs.Finishes.{finishing-of, finishing-none, kept-is}
 use Rattle.core_laws.proofs.Ghost.{hit_with, result_key, answered_with, given_with, decided_with, readied_with, ended_with, told_after, Ends, all-readied}
 use Rattle.cycle_lists.proofs.Places.{last-found}
 
@@ -196,29 +198,43 @@ module _ (hart : ℕ) (m : Machines) (cop : CopOut) (k : Paired hart m) (so : So
           let l = last-found _ (readied_with g cpu cop) e.one e.is_latest in
           record { front = l.older; carried = e.one; back = l.younger; here = l.here; start = refl; key = refl; word = refl; hit = refl; result = refl; ready = e.ready; unfinished = e.unfinished }
 
+      -- by the commit of the cycle
+      decided-readied : (h : Half) → Late (is_some ch.offer) start issued hart w.next_seq (free_id w.flight) (g.cycle + 1) h.answered ch.execute ch.retire None half_entries (readied_with g cpu cop)
+      decided-readied h =
+          late-readied (is_some ch.offer) start issued hart w.next_seq (free_id w.flight) (g.cycle + 1) h.answered ch.execute ch.retire half_entries (decided_with g cpu cop) (readied_with g cpu cop) (all-readied (decided_with g cpu cop))
+          (late-decided (is_some ch.offer) start issued hart w.next_seq (free_id w.flight) (g.cycle + 1) h.answered ch.execute ch.retire w.flight half_entries g.uses (decided_with g cpu cop) h.decided so.execute so.retire)
+
       late : (h : Half) → Late (is_some ch.offer) start issued hart w.next_seq (free_id w.flight) (g.cycle + 1) h.answered ch.execute ch.retire None
           (cond (cop.result_valid && input.result_ready) (result_with (find (holds_id cop.result_id) half_entries) wrote half_entries) half_entries) (ended_with g cpu cop input)
       late h = go (cop.result_valid && input.result_ready) refl
         where
-          l0 : Late (is_some ch.offer) start issued hart w.next_seq (free_id w.flight) (g.cycle + 1) h.answered ch.execute ch.retire None half_entries (readied_with g cpu cop)
-          l0 =
-              late-readied (is_some ch.offer) start issued hart w.next_seq (free_id w.flight) (g.cycle + 1) h.answered ch.execute ch.retire half_entries (decided_with g cpu cop) (readied_with g cpu cop) (all-readied (decided_with g cpu cop))
-              (late-decided (is_some ch.offer) start issued hart w.next_seq (free_id w.flight) (g.cycle + 1) h.answered ch.execute ch.retire w.flight half_entries g.uses (decided_with g cpu cop) h.decided so.execute so.retire)
-
           valid : (a b : Bool) → (a && b) ≡ true → a ≡ true
           valid true b q = refl
           valid false b q = cc
 
           go : (b : Bool) → (cop.result_valid && input.result_ready) ≡ b → Late (is_some ch.offer) start issued hart w.next_seq (free_id w.flight) (g.cycle + 1) h.answered ch.execute ch.retire None
               (cond b (result_with (find (holds_id cop.result_id) half_entries) wrote half_entries) half_entries) (cond b (ended (latest (result_key cop) (readied_with g cpu cop)) (readied_with g cpu cop)) (readied_with g cpu cop))
-          go false q = l0
+          go false q = decided-readied h
           go true q =
               let e = ends (valid cop.result_valid input.result_ready q) in
               let us = readied_with g cpu cop in
-              let l1 = late-result true (is_some ch.offer) start issued hart w.next_seq (free_id w.flight) (g.cycle + 1) h.answered ch.execute ch.retire half_entries us (Some e.one) wrote l0 (carries e) in
+              let l1 = late-result true (is_some ch.offer) start issued hart w.next_seq (free_id w.flight) (g.cycle + 1) h.answered ch.execute ch.retire half_entries us (Some e.one) wrote (decided-readied h) (carries e) in
               let l2 : Late (is_some ch.offer) start issued hart w.next_seq (free_id w.flight) (g.cycle + 1) h.answered ch.execute ch.retire None (result_with (find (holds_id e.one.key.id) half_entries) wrote half_entries) (ended (latest (result_key cop) us) us) =
               subst (λ o. Late (is_some ch.offer) start issued hart w.next_seq (free_id w.flight) (g.cycle + 1) h.answered ch.execute ch.retire None (result_with (find (holds_id e.one.key.id) half_entries) wrote half_entries) (ended o us)) (sym e.is_latest) l1 in
               subst (λ i. Late (is_some ch.offer) start issued hart w.next_seq (free_id w.flight) (g.cycle + 1) h.answered ch.execute ch.retire None (result_with (find (holds_id i) half_entries) wrote half_entries) (ended (latest (result_key cop) us) us)) (ap (λ x. x.id) e.key_is) l2
+
+      -- the entry whose result is taken
+      pub finishing : Each (Finishing seen) (kept_entries ch seen w.flight)
+      finishing =
+          subst (Each (Finishing seen)) (sym (kept-is ch seen issued (response_on seen) gives w.flight refl refl refl ∙ ap (λ l. drain_step ch.drain (cut_step ch.cut (release_step ch.release (sent_entries gives ch.present l)))) (same-answer ch.offer issued (response_on seen) (response_of (hit_with cop)) w.flight says)))
+          (go cop.result_valid refl)
+        where
+          go : (v : Bool) → cop.result_valid ≡ v → Each (Finishing seen) half_entries
+          go false q = finishing-none seen half_entries q
+          go true q =
+              let e = ends q in
+              let h = half in
+              finishing-of hart w.next_seq (free_id w.flight) (g.cycle + 1) h.answered seen e.one half_entries (readied_with g cpu cop) (decided-readied h).joint (carries e) (ap (λ x. x.id) (sym e.key_is)) e.writes
 
       last : (answer : ℕ → ℕ → ℕ) (h : Half) → Last (is_some ch.offer) start issued hart (g.cycle + 1) h.answered None (with_dispatch (dispatch_of answer w ch) (settled_entries ch seen w.flight)) (ended_with g cpu cop input)
       last answer h =

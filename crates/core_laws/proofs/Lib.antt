@@ -4,3 +4,7 @@ pub mod Told
 pub mod Linked
 pub mod Cycle
 pub mod Halves
+pub mod Plain
+pub mod PlainSteps
+pub mod PlainFacts
+pub mod Whole

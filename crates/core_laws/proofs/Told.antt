@@ -1,4 +1,4 @@
--- What a coprocessor is told stays what the buses say, in every cycle in which it keeps its rules.
+-- What a coprocessor has seen stays what the buses say, in every cycle in which it keeps its rules.
 use Rattle.std.proofs.Common.{◌≡◌, ◌+◌, ◌==◌, ◌&&◌, ◌||◌, not, ℕ, Bool, true, false, if◌then◌else◌, Option, Some, None, List, [], ◌∷◌, map, refl, sym, ap, ◌∙◌, subst}
 use Rattle.std.specs.Prelude.{is_some, IfSome, IsSomeAnd}
 use Rattle.std.specs.List.{list_any}
@@ -14,8 +14,9 @@ use Rattle.xif_signals.specs.Bus.{join_of}
 use Rattle.xif_session.specs.declared.fact.Response.{Response}
 use Rattle.xif_session.specs.declared.fact.Fact.{Fact}
 use Rattle.xif_session.specs.Facts as session
-use Rattle.xif_session.specs.Facts.{Facts, Past, past_after, same_key, is_accepted, is_released, is_killed, is_undecided, is_running, issue_key, register_key, commit_key, issue_waits, result_waits, is_issued, is_given, is_taken, is_start, named, now, answered_on, given_on, decided_on, ended_on, undecided_start, effective_start, decision_after, with_response, with_operands, with_decision, response_on}
-use Rattle.xif_session.specs.Rules.{MayFinish, HoldsR3, HoldsR4, read_of}
+use Rattle.xif_session.specs.Facts.{Facts, Past, past_after, same_key, is_accepted, is_released, issue_key, register_key, commit_key, result_waits, is_issued, is_given, named, now, answered_on, given_on, undecided_start, effective_start, response_on}
+use Rattle.xif_session.specs.Rules.{MayFinish, HoldsR3, HoldsR4, HoldsR5, read_of}
+use Rattle.xif_session.specs.Rules as rules
 use Rattle.xif_session.proofs.Options.{both-true, and-true}
 use Rattle.cycle_spec.specs.declared.use_of.Use.{Use}
 use Rattle.cycle_spec.specs.Turns.{transactions_after}
@@ -73,6 +74,12 @@ told_readied facts harts u t = record {
   hart = t.hart;
 }
 
+-- what a hit says of the response
+record HitIs (o : Option Response) (hit : Option Hit) : Type 0 where
+  accepted : is_some hit ≡ true
+  reads : read_of o ≡ register_read_of hit
+  writes : rules.writeback_of o ≡ writeback_of hit
+
 -- but for what the result channel shows
 calm : (facts : Facts) (harts : ℕ) (b c : Bus) (start : ℕ) (shows : Bool) (n : ℕ) (us : List Use) → Stage facts harts b start shows n us → Stage facts harts c 0 false n us
 calm facts harts b c start shows n us s = record { each = Each-from (Kept facts harts b start shows) (Kept facts harts c 0 false) us (λ u x. (x.0, λ h. cc)) s.each; covers = s.covers; member = λ h. cc; rises = s.rises; apart = s.apart }
@@ -123,20 +130,26 @@ module _ (g : Engine) (p : Past) (cpu : CpuOut) (cop : CopOut) (input : CpuIn) (
 
       -- ---- the use that ends: it is accepted, released and not ended, and has its registers
 
-      module _ (r3 : HoldsR3 p bus) (r4 : HoldsR4 p bus) where
+      module _ (r3 : HoldsR3 p bus) (r4 : HoldsR4 p bus) (r5 : HoldsR5 p bus) where
         pub ends : cop.result_valid ≡ true → Ends cop (readied_with g cpu cop)
-        ends v = go (now p bus (result_key cop)) refl (r3 v) (r4 v)
+        ends v = go (now p bus (result_key cop)) refl (r3 v) (r4 v) (r5 v)
           where
-            go : (o : Option Fact) → now p bus (result_key cop) ≡ o → IsSomeAnd o MayFinish → IfSome o (λ fact. (read_of fact.response == 0) ≡ false → is_some fact.operands ≡ true) → Ends cop (readied_with g cpu cop)
-            go None q m r = absurd m
-            go (Some f) q m r =
+            go : (o : Option Fact) → now p bus (result_key cop) ≡ o → IsSomeAnd o MayFinish → IfSome o (λ fact. (read_of fact.response == 0) ≡ false → is_some fact.operands ≡ true) → IfSome o (λ fact. cop.result_we ≡ rules.writeback_of fact.response) → Ends cop (readied_with g cpu cop)
+            go None q m r w = absurd m
+            go (Some f) q m r w =
                 let x = found (now p bus) harts (readied_with g cpu cop) (result_key cop) f told_readied_with readied_stage.covers q in
-                record { one = x.one; is_latest = x.is_latest; key_is = x.key_is; ready = ready x; unfinished = ap (λ y. y.finished) x.same ∙ m.unfinished }
+                record { one = x.one; is_latest = x.is_latest; key_is = x.key_is; ready = ready x; unfinished = ap (λ y. y.finished) x.same ∙ m.unfinished; writes = w ∙ writes x }
               where
                 -- what answers it is a hit
-                hit_is : (o : Option Response) (hit : Option Hit) → AnsweredBy o hit → is_accepted o ≡ true → (is_some hit ≡ true) × (read_of o ≡ register_read_of hit)
+                hit_is : (o : Option Response) (hit : Option Hit) → AnsweredBy o hit → is_accepted o ≡ true → HitIs o hit
                 hit_is None hit a h = cc
-                hit_is (Some y) hit a h = (ap (λ z. z.accept) (sym a) ∙ h, ap (λ z. z.register_read.0) a)
+                hit_is (Some y) hit a h = record { accepted = ap (λ z. z.accept) (sym a) ∙ h; reads = ap (λ z. z.register_read.0) a; writes = ap (λ z. z.writeback.0) a }
+
+                hit : (x : Found (now p bus) harts (readied_with g cpu cop) (result_key cop) f) → HitIs x.told.response x.one.hit
+                hit x = hit_is x.told.response x.one.hit x.told.answered (ap (λ y. is_accepted y.response) x.same ∙ m.accepted)
+
+                writes : (x : Found (now p bus) harts (readied_with g cpu cop) (result_key cop) f) → rules.writeback_of f.response ≡ writeback_of x.one.hit
+                writes x = ap (λ y. rules.writeback_of y.response) (sym x.same) ∙ (hit x).writes
 
                 all-there : (n : ℕ) (given : Bool) → ((n == 0) ≡ false → given ≡ true) → (given || (n == 0)) ≡ true
                 all-there n true h = refl
@@ -148,11 +161,11 @@ module _ (g : Engine) (p : Past) (cpu : CpuOut) (cop : CopOut) (input : CpuIn) (
 
                 ready : (x : Found (now p bus) harts (readied_with g cpu cop) (result_key cop) f) → is_some x.one.ready ≡ true
                 ready x =
-                    let h = hit_is x.told.response x.one.hit x.told.answered (ap (λ y. is_accepted y.response) x.same ∙ m.accepted) in
-                    let given : (register_read_of x.one.hit == 0) ≡ false → x.one.given ≡ true = λ z. sym x.told.given ∙ ap (λ y. is_some y.operands) x.same ∙ r (ap (λ y. read_of y.response == 0) (sym x.same) ∙ ap (λ n. n == 0) h.1 ∙ z) in
+                    let h = hit x in
+                    let given : (register_read_of x.one.hit == 0) ≡ false → x.one.given ≡ true = λ z. sym x.told.given ∙ ap (λ y. is_some y.operands) x.same ∙ r (ap (λ y. read_of y.response == 0) (sym x.same) ∙ ap (λ n. n == 0) h.reads ∙ z) in
                     let l = last-found (has_key (result_key cop)) (readied_with g cpu cop) x.one x.is_latest in
                     Each-at (λ u. may_be_ready u ≡ true → is_some u.ready ≡ true) (readied_with g cpu cop) l.older x.one l.younger l.here (all-ready (decided_with g cpu cop))
-                    (and-true (is_some x.one.hit) (is_complete x.one) h.0 (and-true (is_released x.one.decision) (has_operands x.one) (ap (λ y. is_released y.decision) x.same ∙ m.released) (all-there (register_read_of x.one.hit) x.one.given given)))
+                    (and-true (is_some x.one.hit) (is_complete x.one) h.accepted (and-true (is_released x.one.decision) (has_operands x.one) (ap (λ y. is_released y.decision) x.same ∙ m.released) (all-there (register_read_of x.one.hit) x.one.given given)))
 
         -- ---- after the cycle
 

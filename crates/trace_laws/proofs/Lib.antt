@@ -15,6 +15,7 @@ pub mod Paths
 pub mod Stable
 pub mod Flags
 pub mod Words
+pub mod Finishes
 pub mod Presents
 pub mod SmallCore
 pub mod SmallEngine

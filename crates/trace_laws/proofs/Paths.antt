@@ -232,19 +232,6 @@ module _ (dual : Bool) (seq : ℕ) (b : Bus) (x : Entry) (i : is_issued b ≡ tr
           let same : response_on b ≡ r = some-is (response_on b) r q in
           ap (λ w. rd_field w % 2) (sym (o (eqb-true x.seq seq z)).word) ∙ (a i (ap (λ y. has_flag y.writeback.0 1) same ∙ h)).1
 
-  pub finishing-answer : Finishing b x → Finishing b answered
-  finishing-answer f t u e =
-      let y = f t u e in
-      record {
-        undone = y.undone;
-        response = y.response;
-        there = not-offered (false-or (has_seq seq x) (λ q. no-some y.response (sym (none-there q) ∙ y.there))) ∙ y.there;
-        writes = y.writes;
-      }
-    where
-      no-some : (r : Response) → None ≡ Some r → ⊥
-      no-some r h = cc
-
 -- ---- the result handshake
 
 rd-small : (word : ℕ) → rd_field word < 32

@@ -1,42 +1,38 @@
--- What is known of a cycle of the core beside the engine that it is paired with, for what stays of
+-- What is known of a cycle of the core beside a coprocessor that keeps its rules, for what stays of
 -- the registers that it presents.
 use Rattle.std.proofs.Common.{◌≡◌, ◌++◌, ◌%◌, ℕ, zero, suc, Bool, true, false, if◌then◌else◌, Option, Some, None, List, [], ◌∷◌, take, length, refl, sym, ap, ◌∙◌, subst}
-use Rattle.std.specs.Prelude.{is_some, IfSome}
+use Rattle.std.specs.Prelude.{IfSome}
 use Rattle.std.specs.Option.{option_map}
 use Rattle.rv32_table.specs.Instr.{rd_field}
 use Rattle.inorder_machine.specs.declared.stop.StopCause.{StopCause}
 use Rattle.xif_signals.specs.declared.bus.Bus.{Bus}
+use Rattle.xif_signals.specs.declared.bus.CopOut.{CopOut}
 use Rattle.xif_signals.specs.Known.{has_flag}
 use Rattle.xif_session.specs.Facts.{Past}
 use Rattle.xif_session.specs.Legal.{EngineKeeps}
-use Rattle.xif_session.proofs.Options.{both-true, no_true}
+use Rattle.xif_session.proofs.Options.{no_true}
 use Rattle.cycle_spec.specs.declared.choices.Choices.{Choices}
 use Rattle.cycle_spec.specs.declared.choices.Executed.{Executed}
 use Rattle.cycle_spec.specs.declared.choices.Mode.{Mode}
 use Rattle.cycle_spec.specs.declared.choices.Mode.TheVariants.{Running, DrainBegins, Draining}
 use Rattle.cycle_spec.specs.declared.choices.Presented.{Presented}
 use Rattle.cycle_spec.specs.declared.entry.Entry.{Entry}
-use Rattle.cycle_spec.specs.declared.use_of.Use.{Use}
 use Rattle.cycle_spec.specs.Flight.{is_open, youngest_released}
 use Rattle.cycle_spec.specs.State.{Core}
 use Rattle.cycle_spec.specs.Choices.{stop_at, retirement, presentation_of, presented_entry, offer_in, choices, choices_by, choices_in, stay_with}
-use Rattle.cycle_spec.specs.Core.{word_in}
-use Rattle.cycle_spec.specs.Engine.{offered_use, use_or, writeback_of}
-use Rattle.cycle_spec.specs.Cycle.{Machines, bus_at, core_bus_at}
+use Rattle.cycle_spec.specs.Core.{kept_entries, word_in}
+use Rattle.cycle_spec.specs.Cycle.{Machines}
 use Rattle.cycle_lists.specs.Lists.{Each, Pairs, FirstAt}
 use Rattle.cycle_lists.specs.Order.{Before}
-use Rattle.cycle_lists.proofs.Every.{Each-from, Each-at, Each-append, Each-passed, Pairs-older, Pairs-younger}
-use Rattle.cycle_lists.proofs.Filters.{filter-at, unfilter}
+use Rattle.cycle_lists.proofs.Every.{Each-from, Each-at}
 use Rattle.cycle_lists.proofs.Order.{start-kept}
-use Rattle.cycle_paired.specs.Paired.{is_live, live_entries, is_live_use, live_uses, Match, IsEntry, IsUse, Paired, response_of}
-use Rattle.cycle_paired.proofs.Facts.{only, open-undone, live-undone, ready-live}
+use Rattle.cycle_paired.specs.Paired.{IsEntry, Paired}
+use Rattle.cycle_paired.proofs.Facts.{only, open-undone}
 use Rattle.cycle_paired.proofs.Executing.{Execs}
-use Rattle.cycle_paired.proofs.Matching.{joined}
 use Rattle.cycle_paired.proofs.Choosing.{Sound}
-use Rattle.trace_laws.proofs.EngineTold.{EngineTold}
-use Rattle.trace_laws.proofs.EngineCycle.{Offer, offer_by}
+use Rattle.trace_laws.specs.Driven.{bus_with, seen_with}
 use Rattle.trace_laws.proofs.CoreChosen.{Chosen}
-use Rattle.trace_laws.proofs.Paths.{Fit, Finishes, Finishing, Executing, Heads, IsOffer, Answers}
+use Rattle.trace_laws.proofs.Paths.{Fit, Finishing, Executing, Heads, IsOffer, Answers}
 use Rattle.trace_laws.proofs.Stable.{Known}
 
 -- ---- the choices
@@ -97,9 +93,9 @@ executing-all None [] h = tt
 executing-all None (e ∷ es) h = (tt, executing-all None es tt)
 executing-all (Some x) es h = h
 
-module _ (hart : ℕ) (m : Machines) (p : Past) (k : Paired hart m) (t : EngineTold m.engine m.engine.params.num_harts p) (c : Chosen m.core.params.split m.core.flight (choices m.core)) (so : Sound m.core.params.split m.core.flight (choices m.core)) (e : EngineKeeps m.engine.params p (bus_at m hart)) where
+module _ (hart : ℕ) (m : Machines) (p : Past) (cop : CopOut) (k : Paired hart m) (c : Chosen m.core.params.split m.core.flight (choices m.core)) (so : Sound m.core.params.split m.core.flight (choices m.core)) (e : EngineKeeps m.engine.params p (bus_with hart m.core cop)) where
   abbrev bus : Bus
-  bus = core_bus_at m hart
+  bus = seen_with m.core cop
 
   abbrev ch : Choices
   ch = choices m.core
@@ -127,34 +123,8 @@ module _ (hart : ℕ) (m : Machines) (p : Past) (k : Paired hart m) (t : EngineT
           subst (Each (λ x. x.seq ≡ e.seq → IsOffer bus dual x)) (sym f.here)
           (Each-from (λ x. x.seq ≡ e.seq → x ≡ e) (λ x. x.seq ≡ e.seq → IsOffer bus dual x) (f.older ++ e ∷ f.younger) (λ x s q. subst (IsOffer bus dual) (sym (s q)) own) (only f.older e f.younger (subst (Pairs Before) f.here k.order.pairs)))
 
-  finishing : Each (Finishing bus) m.core.flight
-  finishing = go (offered_use m.engine) refl
-    where
-      none : (es : List Entry) → is_some (offered_use m.engine) ≡ false → Each (Finishing bus) es
-      none [] h = tt
-      none (x ∷ xs) h = (λ taken u i. no_true (is_some (offered_use m.engine)) (both-true (is_some (offered_use m.engine)) _ taken).0 h, none xs h)
-
-      by : (u : Use) → offered_use m.engine ≡ Some u → Offer m.engine.uses u → Each (Finishing bus) m.core.flight
-      by u q o =
-          let live = ready-live k.answered u (Each-at (IsUse k.answered) m.engine.uses o.older u o.younger o.here k.uses) o.ready o.unfinished in
-          let us : live_uses k.answered m.engine.uses ≡ live_uses k.answered o.older ++ u ∷ live_uses k.answered o.younger = ap (live_uses k.answered) o.here ∙ filter-at (is_live_use k.answered) o.older u o.younger live in
-          let j = joined hart (live_entries m.core.flight) (live_uses k.answered o.older) u (live_uses k.answered o.younger) (subst (Match hart (live_entries m.core.flight)) us k.match) in
-          let f = unfilter is_live m.core.flight j.older j.entry j.younger j.here in
-          let alive = Each-at (λ x. is_live x ≡ true) (live_entries m.core.flight) j.older j.entry j.younger j.here (Each-passed is_live m.core.flight) in
-          let order : Pairs Before (f.front ++ j.entry ∷ f.back) = subst (Pairs Before) f.here k.order.pairs in
-          let id : bus.result_id ≡ j.entry.id = ap (λ o. (use_or o).key.id) q ∙ j.alike.id in
-          let own : Finishes bus j.entry = record { undone = live-undone j.entry alive; response = response_of u.hit; there = j.alike.response; writes = ap (λ o. writeback_of (use_or o).hit) q } in
-          subst (Each (Finishing bus)) (sym f.here)
-          (Each-append (Finishing bus) f.front (j.entry ∷ f.back)
-          (Each-from (λ x. Before x j.entry) (Finishing bus) f.front (λ x b taken y i. absurd (b.apart y j.alike.unknown (i ∙ id))) (Pairs-older Before f.front j.entry f.back order))
-          (λ taken y i. own, Each-from (Before j.entry) (Finishing bus) f.back (λ x b taken y i. absurd (b.apart j.alike.unknown y (sym (i ∙ id)))) (Pairs-younger Before f.front j.entry f.back order)))
-
-      go : (o : Option Use) → offered_use m.engine ≡ o → Each (Finishing bus) m.core.flight
-      go None q = none m.core.flight (ap is_some q)
-      go (Some u) q = by u q (offer_by m.engine.script.result m.engine.cycle m.engine.uses p u m.engine.result_waiting t.result q)
-
-  pub known : Each (Fit dual) m.core.flight → length m.core.registers ≡ 32 → Known m.core ch bus
-  known fit count = record {
+  pub known : Each (Finishing bus) (kept_entries ch bus m.core.flight) → Each (Fit dual) m.core.flight → length m.core.registers ≡ 32 → Known m.core ch bus
+  known finishing fit count = record {
     kept = start-kept m.core k.order;
     fit = fit;
     offers = offers;

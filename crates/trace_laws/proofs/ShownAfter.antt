@@ -1,4 +1,5 @@
--- After a cycle the register transaction that waits shows no less.
+-- After a cycle of the core, beside any coprocessor, the register transaction that waits shows no
+-- less.
 use Rattle.std.proofs.Common.{◌≡◌, ◌<◌, ◌+◌, ◌++◌, ◌==◌, ◌&&◌, not, ℕ, Bool, true, false, if◌then◌else◌, Option, Some, None, List, [], ◌∷◌, length, refl, sym, ap, ◌∙◌, subst, arith}
 use Rattle.std.specs.Option.{option_map_or}
 use Rattle.std.proofs.lemmas.Bool.{eq-eqb}
@@ -6,6 +7,7 @@ use Rattle.rv32_table.specs.Instr.{source_field}
 use Rattle.xif_drive.specs.Scripts.{delay_of}
 use Rattle.inorder_machine.specs.Units.{half_register}
 use Rattle.xif_signals.specs.declared.bus.Bus.{Bus}
+use Rattle.xif_signals.specs.declared.bus.CopOut.{CopOut}
 use Rattle.xif_session.specs.Facts.{Past, past_after, register_waits}
 use Rattle.xif_session.proofs.Options.{both-true, not_in, le_in, le_out}
 use Rattle.cycle_spec.specs.declared.choices.Choices.{Choices}
@@ -20,7 +22,7 @@ use Rattle.cycle_spec.specs.Turns.{turn_of, is_past, transactions_after, aged}
 use Rattle.cycle_spec.specs.State.{Core}
 use Rattle.cycle_spec.specs.Choices.{choices, is_late, has_half, half_value}
 use Rattle.cycle_spec.specs.Core.{present_owner, presented_id, registers_behind, settled_entries, with_dispatch, next_entry, core_after}
-use Rattle.cycle_spec.specs.Cycle.{Machines, bus_at, core_bus_at}
+use Rattle.cycle_spec.specs.Cycle.{Machines}
 use Rattle.cycle_lists.specs.Lists.{Each, Pairs}
 use Rattle.cycle_lists.specs.Order.{Before, IsFree}
 use Rattle.cycle_lists.proofs.Tests.{or-left, or-right}
@@ -29,6 +31,7 @@ use Rattle.cycle_paired.specs.Paired.{Paired}
 use Rattle.cycle_paired.proofs.Facts.{only}
 use Rattle.cycle_paired.proofs.Fixed.{Fixed, fixed-settled}
 use Rattle.ahead_laws.proofs.Writes.{count-after}
+use Rattle.trace_laws.specs.Driven.{bus_with, seen_with}
 use Rattle.trace_laws.proofs.CoreChosen.{Chosen}
 use Rattle.trace_laws.proofs.CoreRules.{some_case}
 use Rattle.trace_laws.proofs.Shown.{Grows, Shown, Operands, PresentedAt, presented_at, shown-flags, shown-lanes}
@@ -67,9 +70,12 @@ and-not true true true false h k = refl
 and-not true true false false h k = refl
 and-not false b b' c h k = cc
 
-module _ (hart : ℕ) (m : Machines) (p : Past) (k : Paired hart m) (c : Chosen m.core.params.split m.core.flight (choices m.core)) (answer : (pc word : ℕ) → ℕ) (kn : Known m.core (choices m.core) (core_bus_at m hart)) (values : SmallCore m.core) where
+module _ (hart : ℕ) (m : Machines) (p : Past) (cop : CopOut) (k : Paired hart m) (c : Chosen m.core.params.split m.core.flight (choices m.core)) (answer : (pc word : ℕ) → ℕ) (kn : Known m.core (choices m.core) (seen_with m.core cop)) (values : SmallCore m.core) where
   abbrev bus : Bus
-  bus = bus_at m hart
+  bus = bus_with hart m.core cop
+
+  abbrev seen : Bus
+  seen = seen_with m.core cop
 
   abbrev ch : Choices
   ch = choices m.core
@@ -78,10 +84,10 @@ module _ (hart : ℕ) (m : Machines) (p : Past) (k : Paired hart m) (c : Chosen 
   w = m.core
 
   abbrev after : Core
-  after = core_after answer m.core (choices m.core) (core_bus_at m hart)
+  after = core_after answer m.core (choices m.core) seen
 
   abbrev settled : List Entry
-  settled = settled_entries (choices m.core) (core_bus_at m hart) m.core.flight
+  settled = settled_entries (choices m.core) seen m.core.flight
 
   count : length after.registers ≡ 32
   count = go ch.retire
@@ -104,7 +110,7 @@ module _ (hart : ℕ) (m : Machines) (p : Past) (k : Paired hart m) (c : Chosen 
           (λ u i. refl, Each-from (Before x.entry) (Fixed (Identified x.entry.seq x.entry.id)) at.younger (λ z b u i. absurd (b.apart at.unknown u (sym i))) (Pairs-younger Before at.older x.entry at.younger order)))
 
       rest : Each (Fixed (Identified x.entry.seq x.entry.id)) settled
-      rest = fixed-settled (Identified x.entry.seq x.entry.id) ch (core_bus_at m hart) w.flight start
+      rest = fixed-settled (Identified x.entry.seq x.entry.id) ch seen w.flight start
 
       free : IsFree (free_id w.flight) x.entry
       free = Each-at (IsFree (free_id w.flight)) w.flight at.older x.entry at.younger at.here kn.kept.free
@@ -125,7 +131,7 @@ module _ (hart : ℕ) (m : Machines) (p : Past) (k : Paired hart m) (c : Chosen 
           (Each-from (λ z. z.seq ≡ x.entry.seq → z ≡ x.entry) (Worded x.entry.seq x.entry.word) (at.older ++ x.entry ∷ at.younger) (λ z s q. ap (λ y. y.word) (s q)) (only at.older x.entry at.younger (subst (Pairs Before) at.here k.order.pairs)))
 
       rest : Each (Worded x.entry.seq x.entry.word) settled
-      rest = words x.entry.seq x.entry.word ch (core_bus_at m hart) w.flight start
+      rest = words x.entry.seq x.entry.word ch seen w.flight start
 
       dispatched : (t : Bool) → Each (Worded x.entry.seq x.entry.word) (with_dispatch (if t then Some (next_entry answer w ch) else None) settled)
       dispatched false = rest
@@ -163,7 +169,7 @@ module _ (hart : ℕ) (m : Machines) (p : Past) (k : Paired hart m) (c : Chosen 
       some_case ch.present (Shown after bus) both.0 (λ x pr.
       let at = presented_at hart m p k c x pr in
       let below : x.entry.seq < w.next_seq = Each-at (λ e. e.seq < w.next_seq) w.flight at.older x.entry at.younger at.here kn.kept.below in
-      let st = (cycled w ch (core_bus_at m hart) x.entry.seq kn answer below).stays in
+      let st = (cycled w ch seen x.entry.seq kn answer below).stays in
       let id : bus.register_id ≡ x.entry.id = ap presented_id pr in
       record {
         before = w;
@@ -180,4 +186,4 @@ module _ (hart : ℕ) (m : Machines) (p : Past) (k : Paired hart m) (c : Chosen 
       })
 
   pub operands_after : Operands after (past_after p bus)
-  operands_after = record { fit = fitted w ch (core_bus_at m hart) 0 kn answer; count = count; shown = shown }
+  operands_after = record { fit = fitted w ch seen 0 kn answer; count = count; shown = shown }

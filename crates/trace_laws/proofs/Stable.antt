@@ -26,7 +26,7 @@ use Rattle.cycle_lists.proofs.Order.{Kept, leaves-response, leaves-sent, leaves-
 use Rattle.cycle_lists.proofs.Places.{first-at}
 use Rattle.cycle_paired.proofs.Facts.{only}
 use Rattle.trace_laws.proofs.Views.{Stays, stays-same, stays-then, stays-retired, stays-push}
-use Rattle.trace_laws.proofs.Paths.{Fit, Finishing, Executing, executing-same, Heads, Path, path-map, path-weaker, path-take, plain, fit-same, IsOffer, Answers, steady-answer, fit-answer, finishing-answer, steady-result, fit-result, steady-outcome, fit-outcome}
+use Rattle.trace_laws.proofs.Paths.{Fit, Finishing, Executing, executing-same, Heads, Path, path-map, path-weaker, path-take, plain, fit-same, IsOffer, Answers, steady-answer, fit-answer, steady-result, fit-result, steady-outcome, fit-outcome}
 
 -- what is known of a cycle
 pub record Known (w : Core) (ch : Choices) (b : Bus) : Type 0 where
@@ -34,17 +34,14 @@ pub record Known (w : Core) (ch : Choices) (b : Bus) : Type 0 where
   pub fit : Each (Fit w.params.dual_write) w.flight
   pub offers : IfSome ch.offer (λ e. Each (λ x. x.seq ≡ e.seq → IsOffer b w.params.dual_write x) w.flight)
   pub answers : Answers b w.params.dual_write
-  pub finishing : Each (Finishing b) w.flight
+  pub finishing : Each (Finishing b) (kept_entries ch b w.flight)
   pub executing : Each (Executing ch.execute) w.flight
   pub head : Heads ch.retire w.flight
   pub count : length w.registers ≡ 32
 
--- an entry before the result handshake, and behind it
-abbrev Early : Bool → Bus → Option Executed → Entry → Type 0
-Early dual b o x = Fit dual x × (Finishing b x × Executing o x)
-
-abbrev Late : Bool → Option Executed → Entry → Type 0
-Late dual o x = Fit dual x × Executing o x
+-- an entry before what executes is done
+abbrev Early : Bool → Option Executed → Entry → Type 0
+Early dual o x = Fit dual x × Executing o x
 
 always : (P : Entry → Type 0) (es : List Entry) → ((x : Entry) → P x) → Each P es
 always P es k = each P es k
@@ -59,64 +56,59 @@ module _ (w : Core) (ch : Choices) (b : Bus) (s : ℕ) (k : Known w ch b) where
   abbrev Through : (Entry → Type 0) → List Entry → Type 0
   Through Q es = Path dual s w.next_seq (free_id w.flight) w.registers w.flight ch.retire Q es
 
-  begun : Through (Early dual b ch.execute) w.flight
+  begun : Through (Early dual ch.execute) w.flight
   begun = record {
     stays = stays-same dual s w.registers w.flight;
     kept = k.kept;
-    facts = Each-both (Fit dual) (λ x. Finishing b x × Executing ch.execute x) (Early dual b ch.execute) w.flight (λ x f r. (f, r)) k.fit
-        (Each-both (Finishing b) (Executing ch.execute) (λ x. Finishing b x × Executing ch.execute x) w.flight (λ x f r. (f, r)) k.finishing k.executing);
+    facts = Each-both (Fit dual) (Executing ch.execute) (Early dual ch.execute) w.flight (λ x f r. (f, r)) k.fit k.executing;
     head = k.head;
   }
 
-  answered : Through (Early dual b ch.execute) (answered_entries ch b w.flight)
+  answered : Through (Early dual ch.execute) (answered_entries ch b w.flight)
   answered = go (is_issued b) refl ch.offer k.offers
     where
-      go : (t : Bool) → is_issued b ≡ t → (o : Option Entry) → IfSome o (λ e. Each (λ x. x.seq ≡ e.seq → IsOffer b dual x) w.flight) → Through (Early dual b ch.execute) (if t then response_on_offer o b w.flight else w.flight)
+      go : (t : Bool) → is_issued b ≡ t → (o : Option Entry) → IfSome o (λ e. Each (λ x. x.seq ≡ e.seq → IsOffer b dual x) w.flight) → Through (Early dual ch.execute) (if t then response_on_offer o b w.flight else w.flight)
       go false i o h = begun
       go true i None h = begun
       go true i (Some e) h =
-          path-map dual s w.next_seq (free_id w.flight) w.registers w.flight ch.retire (Early dual b ch.execute) (Early dual b ch.execute) (λ x. x.seq ≡ e.seq → IsOffer b dual x) (with_response e.seq (response_on b)) w.flight (leaves-response e.seq (response_on b)) h
-          (λ x q o. (steady-answer dual e.seq b x i k.answers o, (fit-answer dual e.seq b x i k.answers o q.0, (finishing-answer dual e.seq b x i k.answers o q.1.0, executing-same ch.execute x (with_response e.seq (response_on b) x) refl refl refl q.1.1)))) begun
+          path-map dual s w.next_seq (free_id w.flight) w.registers w.flight ch.retire (Early dual ch.execute) (Early dual ch.execute) (λ x. x.seq ≡ e.seq → IsOffer b dual x) (with_response e.seq (response_on b)) w.flight (leaves-response e.seq (response_on b)) h
+          (λ x q o. (steady-answer dual e.seq b x i k.answers o, (fit-answer dual e.seq b x i k.answers o q.0, executing-same ch.execute x (with_response e.seq (response_on b) x) refl refl refl q.1))) begun
 
   -- a change that leaves all of it
-  plainly : (f : Entry → Entry) (x : Entry) → (f x).seq ≡ x.seq → (f x).kind ≡ x.kind → (f x).id ≡ x.id → (f x).response ≡ x.response → (f x).word ≡ x.word → (f x).done ≡ x.done → (f x).write ≡ x.write → Early dual b ch.execute x → Early dual b ch.execute (f x)
-  plainly f x a c i r wd d t q =
-      (fit-same dual x (f x) c r wd d t q.0, (λ h u e. let y = q.1.0 h (ap is_unknown_kind (sym c) ∙ u) (sym i ∙ e) in record { undone = d ∙ y.undone; response = y.response; there = r ∙ y.there; writes = y.writes }, executing-same ch.execute x (f x) a c d q.1.1))
+  plainly : (f : Entry → Entry) (x : Entry) → (f x).seq ≡ x.seq → (f x).kind ≡ x.kind → (f x).response ≡ x.response → (f x).word ≡ x.word → (f x).done ≡ x.done → (f x).write ≡ x.write → Early dual ch.execute x → Early dual ch.execute (f x)
+  plainly f x a c r wd d t q = (fit-same dual x (f x) c r wd d t q.0, executing-same ch.execute x (f x) a c d q.1)
 
-  sent : Through (Early dual b ch.execute) (sent_entries ch b w.flight)
+  sent : Through (Early dual ch.execute) (sent_entries ch b w.flight)
   sent = go (is_given b) ch.present
     where
-      go : (t : Bool) (o : Option Presented) → Through (Early dual b ch.execute) (if t then sent_on_present o (answered_entries ch b w.flight) else answered_entries ch b w.flight)
+      go : (t : Bool) (o : Option Presented) → Through (Early dual ch.execute) (if t then sent_on_present o (answered_entries ch b w.flight) else answered_entries ch b w.flight)
       go false o = answered
       go true None = answered
       go true (Some y) =
-          path-map dual s w.next_seq (free_id w.flight) w.registers w.flight ch.retire (Early dual b ch.execute) (Early dual b ch.execute) (λ x. Unit {0}) (with_sent y.entry.seq) (answered_entries ch b w.flight) (leaves-sent y.entry.seq) (always (λ x. Unit {0}) (answered_entries ch b w.flight) (λ x. tt))
-          (λ x q o. (plain dual (with_sent y.entry.seq) x refl refl refl refl refl, plainly (with_sent y.entry.seq) x refl refl refl refl refl refl refl q)) answered
+          path-map dual s w.next_seq (free_id w.flight) w.registers w.flight ch.retire (Early dual ch.execute) (Early dual ch.execute) (λ x. Unit {0}) (with_sent y.entry.seq) (answered_entries ch b w.flight) (leaves-sent y.entry.seq) (always (λ x. Unit {0}) (answered_entries ch b w.flight) (λ x. tt))
+          (λ x q o. (plain dual (with_sent y.entry.seq) x refl refl refl refl refl, plainly (with_sent y.entry.seq) x refl refl refl refl refl refl q)) answered
 
-  released : Through (Early dual b ch.execute) (released_entries ch b w.flight)
+  released : Through (Early dual ch.execute) (released_entries ch b w.flight)
   released = go ch.release
     where
-      go : (o : Option Entry) → Through (Early dual b ch.execute) (release_step o (sent_entries ch b w.flight))
+      go : (o : Option Entry) → Through (Early dual ch.execute) (release_step o (sent_entries ch b w.flight))
       go None = sent
       go (Some e) =
-          path-map dual s w.next_seq (free_id w.flight) w.registers w.flight ch.retire (Early dual b ch.execute) (Early dual b ch.execute) (λ x. Unit {0}) (with_release e.seq) (sent_entries ch b w.flight) (leaves-release e.seq) (always (λ x. Unit {0}) (sent_entries ch b w.flight) (λ x. tt))
-          (λ x q o. (plain dual (with_release e.seq) x refl refl refl refl refl, plainly (with_release e.seq) x refl refl refl refl refl refl refl q)) sent
+          path-map dual s w.next_seq (free_id w.flight) w.registers w.flight ch.retire (Early dual ch.execute) (Early dual ch.execute) (λ x. Unit {0}) (with_release e.seq) (sent_entries ch b w.flight) (leaves-release e.seq) (always (λ x. Unit {0}) (sent_entries ch b w.flight) (λ x. tt))
+          (λ x q o. (plain dual (with_release e.seq) x refl refl refl refl refl, plainly (with_release e.seq) x refl refl refl refl refl refl q)) sent
 
-  cut : (o : Option Cut) (es : List Entry) → Through (Early dual b ch.execute) es → Through (Early dual b ch.execute) (cut_step o es)
+  cut : (o : Option Cut) (es : List Entry) → Through (Early dual ch.execute) es → Through (Early dual ch.execute) (cut_step o es)
   cut None es p = p
-  cut (Some c) es p = path-take dual s w.next_seq (free_id w.flight) w.registers w.flight ch.retire (Early dual b ch.execute) c.keep es p
+  cut (Some c) es p = path-take dual s w.next_seq (free_id w.flight) w.registers w.flight ch.retire (Early dual ch.execute) c.keep es p
 
-  drained : (o : Option ℕ) (es : List Entry) → Through (Early dual b ch.execute) es → Through (Early dual b ch.execute) (drain_step o es)
+  drained : (o : Option ℕ) (es : List Entry) → Through (Early dual ch.execute) es → Through (Early dual ch.execute) (drain_step o es)
   drained None es p = p
-  drained (Some n) es p = path-take dual s w.next_seq (free_id w.flight) w.registers w.flight ch.retire (Early dual b ch.execute) n es p
+  drained (Some n) es p = path-take dual s w.next_seq (free_id w.flight) w.registers w.flight ch.retire (Early dual ch.execute) n es p
 
-  stay : Through (Early dual b ch.execute) (kept_entries ch b w.flight)
+  stay : Through (Early dual ch.execute) (kept_entries ch b w.flight)
   stay = drained ch.drain (cut_step ch.cut (released_entries ch b w.flight)) (cut ch.cut (released_entries ch b w.flight) released)
 
-  later : (es : List Entry) → Through (Early dual b ch.execute) es → Through (Late dual ch.execute) es
-  later es p = path-weaker dual s w.next_seq (free_id w.flight) w.registers w.flight ch.retire (Early dual b ch.execute) (Late dual ch.execute) es (λ x q. (q.0, q.1.1)) p
-
-  finished : Through (Late dual ch.execute) (finished_entries ch b w.flight)
+  finished : Through (Early dual ch.execute) (finished_entries ch b w.flight)
   finished = go (is_taken b) refl (find (holds_id b.result_id) (kept_entries ch b w.flight)) refl
     where
       executing : (y : Entry) → is_unknown y ≡ true → (x : Entry) → (x.seq ≡ y.seq → x ≡ y) → (o : Option Executed) → Executing o x → Executing o (with_result y.seq (unit_write (rd_field y.word) b.result_we b.result_data) x)
@@ -126,25 +118,24 @@ module _ (w : Core) (ch : Choices) (b : Bus) (s : ℕ) (k : Known w ch b) where
           let apart : has_seq y.seq x ≡ false = false-or (has_seq y.seq x) (λ t. known-local x old.instr old.kind_is (ap is_unknown (one (eqb-true x.seq y.seq t)) ∙ u)) in
           record { instr = old.instr; kind_is = old.kind_is; not_done = ap (λ t. x.done || t) apart ∙ or-false x.done ∙ old.not_done; memory = old.memory; at_word = old.at_word; a = old.a; b = old.b; is_it = old.is_it }
 
-      go : (t : Bool) → is_taken b ≡ t → (o : Option Entry) → find (holds_id b.result_id) (kept_entries ch b w.flight) ≡ o → Through (Late dual ch.execute) (if t then result_for o b (kept_entries ch b w.flight) else kept_entries ch b w.flight)
-      go false i o f = later (kept_entries ch b w.flight) stay
-      go true i None f = later (kept_entries ch b w.flight) stay
+      go : (t : Bool) → is_taken b ≡ t → (o : Option Entry) → find (holds_id b.result_id) (kept_entries ch b w.flight) ≡ o → Through (Early dual ch.execute) (if t then result_for o b (kept_entries ch b w.flight) else kept_entries ch b w.flight)
+      go false i o f = stay
+      go true i None f = stay
       go true i (Some y) f =
           let at = first-at (holds_id b.result_id) (kept_entries ch b w.flight) y f in
           let u = and-left (is_unknown y) (y.id == b.result_id) at.passes in
-          let q = Each-at (Early dual b ch.execute) (kept_entries ch b w.flight) at.older y at.younger at.here stay.facts in
-          let fin = q.1.0 i u (eqb-true y.id b.result_id (and-right (is_unknown y) (y.id == b.result_id) at.passes)) in
+          let fin = Each-at (Finishing b) (kept_entries ch b w.flight) at.older y at.younger at.here k.finishing i u (eqb-true y.id b.result_id (and-right (is_unknown y) (y.id == b.result_id) at.passes)) in
           let ones : Each (λ x. x.seq ≡ y.seq → x ≡ y) (kept_entries ch b w.flight) = subst (Each (λ x. x.seq ≡ y.seq → x ≡ y)) (sym at.here) (only at.older y at.younger (subst (Pairs Before) at.here stay.kept.pairs)) in
-          path-map dual s w.next_seq (free_id w.flight) w.registers w.flight ch.retire (Early dual b ch.execute) (Late dual ch.execute) (λ x. x.seq ≡ y.seq → x ≡ y) (with_result y.seq (unit_write (rd_field y.word) b.result_we b.result_data)) (kept_entries ch b w.flight) (leaves-result y.seq _) ones
-          (λ x e one. (steady-result dual b y u fin x one, (fit-result dual b y u fin x one e.0, executing y u x one ch.execute e.1.1))) stay
+          path-map dual s w.next_seq (free_id w.flight) w.registers w.flight ch.retire (Early dual ch.execute) (Early dual ch.execute) (λ x. x.seq ≡ y.seq → x ≡ y) (with_result y.seq (unit_write (rd_field y.word) b.result_we b.result_data)) (kept_entries ch b w.flight) (leaves-result y.seq _) ones
+          (λ x e one. (steady-result dual b y u fin x one, (fit-result dual b y u fin x one e.0, executing y u x one ch.execute e.1))) stay
 
   executed : Through (Fit dual) (executed_entries ch b w.flight)
   executed = go ch.execute finished
     where
-      go : (o : Option Executed) → Through (Late dual o) (finished_entries ch b w.flight) → Through (Fit dual) (execute_step o (finished_entries ch b w.flight))
-      go None p = path-weaker dual s w.next_seq (free_id w.flight) w.registers w.flight ch.retire (Late dual None) (Fit dual) (finished_entries ch b w.flight) (λ x q. q.0) p
+      go : (o : Option Executed) → Through (Early dual o) (finished_entries ch b w.flight) → Through (Fit dual) (execute_step o (finished_entries ch b w.flight))
+      go None p = path-weaker dual s w.next_seq (free_id w.flight) w.registers w.flight ch.retire (Early dual None) (Fit dual) (finished_entries ch b w.flight) (λ x q. q.0) p
       go (Some y) p =
-          path-map dual s w.next_seq (free_id w.flight) w.registers w.flight ch.retire (Late dual (Some y)) (Fit dual) (λ x. Unit {0}) (with_outcome y.entry.seq y.outcome) (finished_entries ch b w.flight) (leaves-outcome y.entry.seq y.outcome) (always (λ x. Unit {0}) (finished_entries ch b w.flight) (λ x. tt))
+          path-map dual s w.next_seq (free_id w.flight) w.registers w.flight ch.retire (Early dual (Some y)) (Fit dual) (λ x. Unit {0}) (with_outcome y.entry.seq y.outcome) (finished_entries ch b w.flight) (leaves-outcome y.entry.seq y.outcome) (always (λ x. Unit {0}) (finished_entries ch b w.flight) (λ x. tt))
           (λ x q o. (steady-outcome dual y.entry.seq y.outcome x q.1, fit-outcome dual y.entry.seq y.outcome x q.1 q.0)) p
 
   -- ---- retirement and dispatch

@@ -2,8 +2,8 @@
 //!
 //! The rules are those of `xif_session`, which says in `specs/Legal.antt` who owes which of them;
 //! core and engine are those of `cycle_spec`. `specs/Driven.antt` has the engine beside any core,
-//! and `specs/Sessions.antt` the sessions of both. The laws are those of `src/laws.rt`, each the
-//! contract of a call that does nothing.
+//! and the core beside any coprocessor; `specs/Sessions.antt` has the sessions of both. The laws
+//! are those of `src/laws.rt`, each the contract of a call that does nothing.
 //!
 //! How it is proved: the engine's uses are the latest uses of their keys, as the buses show them
 //! (`proofs/EngineTold.antt`), and each step of a cycle keeps this. The live entries of the core
