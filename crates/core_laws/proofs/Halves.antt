@@ -15,10 +15,11 @@ use Rattle.cycle_spec.specs.declared.choices.Mode.TheVariants.{Running, DrainBeg
 use Rattle.cycle_spec.specs.State.{Core, Engine, new_core, new_engine}
 use Rattle.cycle_lists.specs.Lists.{Each}
 use Rattle.cycle_paired.proofs.Always.{drain-paired, resumed-paired}
+use Rattle.width_laws.proofs.Memories.{IsByte}
+use Rattle.width_laws.proofs.Operands.{IsWord}
 use Rattle.trace_laws.specs.Driven.{bus_with}
 use Rattle.trace_laws.specs.Sessions.{HasBytes}
 use Rattle.trace_laws.proofs.EngineHalf.{new_told}
-use Rattle.trace_laws.proofs.SmallRows.{IsWord, IsByte}
 use Rattle.trace_laws.proofs.Sessions.{operands_in, words_in}
 use Rattle.core_laws.specs.Answered.{Answered, First, Cycled, Drained, Resumed}
 use Rattle.core_laws.proofs.Cycle.{IsPlain, Held, keeps, held}
