@@ -183,9 +183,6 @@ leads-on w es x g r k = λ line h. go (is_control x.entry) refl line h
 no-stop : (c : StopCause) (line : Retire) → Stop c ≡ Retired line → ⊥
 no-stop c line h = cc
 
-line-is : (a b : Retire) → Retired a ≡ Retired b → a ≡ b
-line-is a b h = cc
-
 abbrev turn_to : Executed → List Entry → Retire → Cut
 turn_to x es line = record { keep = count_through x.entry.seq es; target = line.next }
 

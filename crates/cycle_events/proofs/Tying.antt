@@ -41,15 +41,6 @@ each-start us front u back h o =
     (Each-from (λ v. Older v u) (λ v. v.start ≡ u.start → v ≡ u) front (λ v k q. absurd (let r = k.rises in omega arith)) (Pairs-older Older front u back o'))
     ((λ q. refl), Each-from (Older u) (λ v. v.start ≡ u.start → v ≡ u) back (λ v k q. absurd (let r = k.rises in omega arith)) (Pairs-younger Older front u back o')))
 
--- the only unknown word of an id
-pub each-id : (es older : List Entry) (e : Entry) (younger : List Entry) → es ≡ older ++ e ∷ younger → Pairs Before es → is_unknown e ≡ true → Each (λ y. is_unknown y ≡ true → y.id ≡ e.id → y ≡ e) es
-each-id es older e younger h b u =
-    let b' : Pairs Before (older ++ e ∷ younger) = subst (Pairs Before) h b in
-    subst (Each (λ y. is_unknown y ≡ true → y.id ≡ e.id → y ≡ e)) (sym h)
-    (Each-append (λ y. is_unknown y ≡ true → y.id ≡ e.id → y ≡ e) older (e ∷ younger)
-    (Each-from (λ y. Before y e) (λ y. is_unknown y ≡ true → y.id ≡ e.id → y ≡ e) older (λ y k v q. absurd (k.apart v u q)) (Pairs-older Before older e younger b'))
-    ((λ v q. refl), Each-from (Before e) (λ y. is_unknown y ≡ true → y.id ≡ e.id → y ≡ e) younger (λ y k v q. absurd (k.apart u v (sym q))) (Pairs-younger Before older e younger b')))
-
 -- ---- uses that keep what is known
 
 pub record SameUse (u v : Use) : Type 0 where

@@ -57,10 +57,6 @@ not-in false h = refl
 pub not-out : (b : Bool) → b ≡ false → not b ≡ true
 not-out b h = ap not h
 
-pub not-not : (b : Bool) → not b ≡ false → b ≡ true
-not-not true h = refl
-not-not false h = cc
-
 -- a test has one answer
 pub not-both : (b : Bool) → b ≡ false → b ≡ true → ⊥
 not-both b h k = cc

@@ -17,7 +17,7 @@ use Rattle.cycle_spec.specs.Turns.{turn_of, is_past}
 use Rattle.cycle_spec.specs.State.{Engine}
 use Rattle.cycle_spec.specs.Core.{cpu_out, id_in, word_in, presented_id, sent_on_present, release_step, cut_step, drain_step, execute_step, retire_step, memory_behind, ahead_behind, with_dispatch, dispatch_of}
 use Rattle.cycle_spec.specs.Engine.{latest, offered_hit, issue_start, issue_ready, response_hit, register_use, register_start, may_take, register_ready, offered_use, use_or, writeback_of, with_answer, given_to, lanes_on, ready_in_harts, start_step, goes_on, started_uses}
-use Rattle.cycle_spec.specs.Cycle.{Machines, hart_if, for_hart, input_at}
+use Rattle.cycle_spec.specs.Cycle.{Machines, hart_if, for_hart}
 use Rattle.cycle_lists.specs.Lists.{Each, FirstAt}
 use Rattle.cycle_lists.proofs.Order.{start-kept}
 use Rattle.cycle_paired.specs.Paired.{response_of, IsEntry, Paired}
@@ -203,9 +203,6 @@ offered-carries hart m vs k f = go (offered_use m.engine) refl
 -- what a result writes for an entry
 abbrev pub result_write : Option Use → Entry → Write
 result_write o x = unit_write (rd_field x.word) (writeback_of (use_or o).hit) (use_or o).result
-
-abbrev pub ready_at : (hart : ℕ) → Machines → Bool
-ready_at hart m = (input_at m hart).result_ready
 
 pub whole : (hart : ℕ) (m : Machines) (answer : ℕ → ℕ → ℕ) (ready : Bool) (ch : Choices) (k : Paired hart m) (so : Sound m.core.params.split m.core.flight ch) (h : Half hart m ch k.answered)
     → Last (is_some ch.offer) (issue_start m.engine (cpu_for hart ch)) (answers m.engine hart ch) hart (m.engine.cycle + 1) h.answered (waiting_after (offered_use m.engine) ready)

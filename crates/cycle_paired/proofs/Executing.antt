@@ -185,14 +185,6 @@ live-outcome s o e x ok = by-number (λ y. is_live y ≡ is_live e) s o e refl r
         let none : is_some e.response ≡ false = false-or (is_some e.response) (λ z. not-unknown e k.instr k.kind_is (ok.answered z)) in
         none-dead (line-by true line e) none ∙ sym (none-dead e none)
 
-outcome-some : (s : ℕ) (o : Stepped) (e : Entry) → (with_outcome s o e).response ≡ e.response
-outcome-some s (Retired line) e = refl
-outcome-some s (Stop cause) e = refl
-
-pub outcome-open : (s : ℕ) (o : Stepped) (e : Entry) → ((with_outcome s o e).kind ≡ e.kind) × ((with_outcome s o e).response ≡ e.response) × ((with_outcome s o e).id ≡ e.id) × ((with_outcome s o e).word ≡ e.word) × ((with_outcome s o e).released ≡ e.released) × ((with_outcome s o e).operands_sent ≡ e.operands_sent)
-outcome-open s (Retired line) e = (refl, refl, refl, refl, refl, refl)
-outcome-open s (Stop cause) e = (refl, refl, refl, refl, refl, refl)
-
 alike-outcome : (hart s : ℕ) (o : Stepped) (e : Entry) (u : Use) → Alike hart e u → Alike hart (with_outcome s o e) u
 alike-outcome hart s (Retired line) e u a = record { unknown = a.unknown; hart_is = a.hart_is; id = a.id; word = a.word; response = a.response; given = a.given; decision = a.decision }
 alike-outcome hart s (Stop cause) e u a = record { unknown = a.unknown; hart_is = a.hart_is; id = a.id; word = a.word; response = a.response; given = a.given; decision = a.decision }

@@ -5,7 +5,6 @@ use Rattle.rv32_table.specs.Instr.{rd_field}
 use Rattle.inorder_machine.specs.declared.line.Write.{Write}
 use Rattle.inorder_machine.specs.Units.{unit_write}
 use Rattle.xif_signals.specs.declared.bus.Bus.{Bus}
-use Rattle.xif_signals.specs.declared.bus.CpuIn.{CpuIn}
 use Rattle.xif_session.specs.declared.fact.Response.{Response}
 use Rattle.xif_session.specs.Facts.{is_issued, is_given, is_taken, response_on}
 use Rattle.cycle_spec.specs.declared.choices.Choices.{Choices}
@@ -14,11 +13,10 @@ use Rattle.cycle_spec.specs.declared.entry.Entry.{Entry}
 use Rattle.cycle_spec.specs.declared.turn.Transactions.{Transactions}
 use Rattle.cycle_spec.specs.Flight.{holds_id}
 use Rattle.cycle_spec.specs.Turns.{transactions_after}
-use Rattle.cycle_spec.specs.State.{Engine}
 use Rattle.cycle_spec.specs.Core.{response_on_offer, response_step, sent_on_present, sent_step, release_step, cut_step, drain_step, result_for, result_step, execute_step, retire_step, settled_entries}
-use Rattle.cycle_spec.specs.Engine.{engine_drive, offered_use, ready_in_harts, settled_uses, owner_if}
-use Rattle.cycle_paired.proofs.Lasting.{result_with, result_uses}
-use Rattle.cycle_paired.proofs.Cycling.{cpu_for, answer_on, sent_entries, half_uses}
+use Rattle.cycle_spec.specs.Engine.{owner_if}
+use Rattle.cycle_paired.proofs.Lasting.{result_with}
+use Rattle.cycle_paired.proofs.Cycling.{answer_on, sent_entries}
 
 -- ---- the core
 
@@ -69,9 +67,6 @@ settled-is ch b ti r tg tr id we data' es h k g q =
     ∙ ap (λ l. retire_step ch.retire (execute_step ch.execute l)) (result-same b tr id we data' (half_for ch ti r tg es) q)
 
 -- ---- the engine
-
-pub uses-are : (hart : ℕ) (e : Engine) (ch : Choices) (input : CpuIn) → settled_uses e (cpu_for hart ch) (engine_drive e (cpu_for hart ch)) input ≡ ready_in_harts e.set e.cycle 0 e.units (result_uses (offered_use e) input.result_ready (half_uses e hart ch))
-uses-are hart e ch input = refl
 
 -- the issue transaction that waits is that of the use that was offered
 pub waits-for : (P : ℕ → Type 0) (ts : Transactions) (valid ready : Bool) (s : ℕ) → (valid ≡ true → (valid && ready) ≡ false → P s) → IfSome (transactions_after ts (owner_if valid s) ready).waiting (λ t. P t.owner)

@@ -15,9 +15,6 @@ use Rattle.engine_history.proofs.Ready.{Decided, Grouped, IsBy, AllBy}
 
 -- ---- one after another
 
-come_same : {A : Type 0} (when : A → ℕ) (cycle : ℕ) (o : Option A) → Comes when cycle o o
-come_same when cycle o = inl refl
-
 come_on : {A : Type 0} (when : A → ℕ) (cycle : ℕ) (a b c : Option A) → Comes when cycle a b → Comes when cycle b c → Comes when cycle a c
 come_on when cycle a b c (inl p) (inl q) = inl (q ∙ p)
 come_on when cycle a b c (inl p) (inr q) = inr (sym p ∙ q.0, q.1)

@@ -253,10 +253,6 @@ answer_both params set cycle b hit start number us ls named n h q = go (is_issue
         ∙ ap₂ (λ o k. told_uses params set (at_start o (f k) ls)) (sym (named (valid b.issue_valid b.issue_ready e))) n
     go false e = q
 
--- where a key names a use on one side, it does on the other
-named_both : (params : Params) (set : List UnitTable) (us : List Use) (ls : List Life) → map plain us ≡ told_uses params set ls → (key : Key) → option_map plain (spec.latest key us) ≡ option_map (use_told params set) (latest key ls)
-named_both params set us ls h key = names params set us ls h key
-
 pub given_both : (params : Params) (set : List UnitTable) (cycle : ℕ) (b : Bus) (us : List Use) (ls : List Life) → map plain us ≡ told_uses params set ls
     → map plain (spec.given_step (cpu_of b) (cop_of b) us) ≡ told_uses params set (given cycle b ls)
 given_both params set cycle b us ls q = go (is_given b) (spec.latest (register_key b) us) (latest (register_key b) ls) (names params set us ls q (register_key b))

@@ -13,9 +13,6 @@ use Rattle.engine_history.specs.Told.{others, latest_uses}
 
 -- ---- the others of a key
 
-other_of : Key → Use → Bool
-other_of key u = not (same_key u.key key)
-
 -- a change that keeps keys
 pub map_others : (f : Use → Use) → ((u : Use) → (f u).key ≡ u.key) → (key : Key) (us : List Use) → map f (others key us) ≡ others key (map f us)
 map_others f k key [] = refl

@@ -206,10 +206,6 @@ one_low set cycle h (st ∷ states) us u l =
     ap (one_from set cycle (h + 1) states (ready_uses set cycle h st us)) (not_due set cycle h st us u (ne_eqb u.key.hart h (λ q. omega (arith, l, q))))
     ∙ one_low set cycle (h + 1) states (ready_uses set cycle h st us) u (omega (arith, l))
 
--- what is ready of one hart changes nothing of another
-other_next : (cycle result g h : ℕ) (u : Use) → g < h → is_next g u ≡ true → (is_next h u ≡ false) × (is_next h (with_ready cycle result u) ≡ false)
-other_next cycle result g h u l n = grind (arith, nat_tests)
-
 other_units : (set : List UnitTable) (cycle g h : ℕ) (s t : List (List ℕ)) (us : List Use) → g < h → units_behind set is_complete h t (ready_uses set cycle g s us) ≡ units_behind set is_complete h t us
 other_units set cycle g h s t [] l = refl
 other_units set cycle g h s t (u ∷ us) l =
