@@ -12,4 +12,5 @@ pub mod Stopping
 pub mod Running
 pub mod Predicted
 pub mod Faithful
+pub mod Summing
 pub mod Printed

@@ -9,6 +9,7 @@ pub mod Summary
 pub mod Outcome
 pub mod Judged
 pub mod Faithful
+pub mod Sum
 pub mod Ending
 pub mod Afterwards
 pub mod Concluding

@@ -9,6 +9,7 @@ ghost use Rattle.xif_cli.specs.Outcome.{Answer, end_status, found, without, comm
 ghost use Rattle.xif_cli.specs.declared.answer.End.{End};
 ghost use Rattle.xif_cli.specs.Faithful.{IsFaithfulAnswer};
 ghost use Rattle.xif_cli.specs.Reading.{Ends, seen, can_refuse};
+ghost use Rattle.xif_cli.specs.Sum.{PrintsTheSum};
 ghost use Rattle.xif_cli.specs.Words as form;
 ghost use Rattle.xif_cli.specs.Words.{Form, IsInRange, IsCommand, form_of};
 
@@ -51,6 +52,14 @@ pub fn xif<S: Shelf, O: Out>(alloc: Global, words: &[String], shelf: &mut S, out
     ensures run_is_faithful { (job : List ℕ) → IsCommand (texts_of words.now) (form.Run job) →
         result ≡ Status.Done → (m : Files) → S.files shelf.old ≡ Some m →
         IsDone (IsFaithfulAnswer job (found m)) End.Done
+        m (S.files shelf.new) (O.put_bytes out.old) (O.put_bytes out.new) }
+
+    // Where `gen` is done, it prints that its program ended by ECALL after 3 * COUNT + 6
+    // instructions, with COUNT times SEED in the accumulator and in two registers.
+    ensures gen_prints_the_sum { (seed count : ℕ) →
+        IsCommand (texts_of words.now) (form.Gen seed count) →
+        result ≡ Status.Done → (m : Files) → S.files shelf.old ≡ Some m →
+        IsDone (PrintsTheSum seed count) End.Done
         m (S.files shelf.new) (O.put_bytes out.old) (O.put_bytes out.new) }
 
     // A file can't be read where a fault of the shelf was counted, or where it isn't there. What is

@@ -1,5 +1,5 @@
 //! A cycle of core and coprocessors on one bus.
-ghost use Rattle.std.specs.Prelude.{◌≡◌, ◌<◌, ◌^◌, ◌∷◌, List, None, IsTrue};
+ghost use Rattle.std.specs.Prelude.{◌≡◌, ◌≢◌, ◌<◌, ◌^◌, ◌∷◌, ℕ, List, None, IsTrue, map};
 ghost use Rattle.xif_base.specs.Params.{IsInRange};
 ghost use Rattle.xif_signals.specs.Bus.{FitsWidths};
 ghost use Rattle.cycle_spec.specs.Choices.{choices};
@@ -7,9 +7,11 @@ ghost use Rattle.cycle_spec.specs.Core.{learnt};
 ghost use Rattle.cycle_spec.specs.Counts.{IsCountedBy};
 ghost use Rattle.cycle_spec.specs.Cycle as spec;
 ghost use Rattle.cycle_spec.specs.Cycle.{Machines};
+ghost use Rattle.cycle_spec.specs.Engine.{units_of};
 ghost use Rattle.cycle_spec.specs.Run.{Setup};
 ghost use Rattle.xif_session.specs.Legal.{IsLegalSession};
 ghost use Rattle.trace_laws.specs.Sessions.{Session};
+ghost use Rattle.hart_laws.specs.Harts.{HasServed, uses_of, after_result, AreTaken};
 
 use coproc_engine::Engine;
 use cycle_spec::CycleLog;
@@ -58,6 +60,17 @@ pub fn one_cycle<P: Predictor>(
         Session setup hart (record { core = core.old; engine = engine.old }) session →
         Session setup hart (record { core = core.new; engine = engine.new })
         (result.0 ∷ session) }
+
+    // The engine serves cores of all harts. Of each other hart it keeps the accumulators, and the
+    // uses but for their ends: a use whose result is taken in the cycle is finished. Where each
+    // result of that hart that is ready was taken, its uses stay as they are.
+    ensures served { HasServed engine.old → HasServed engine.new }
+    ensures other_units { (other : ℕ) → other ≢ hart → HasServed engine.old →
+        units_of engine.new other ≡ units_of engine.old other }
+    ensures other_uses { (other : ℕ) → other ≢ hart → HasServed engine.old →
+        uses_of engine.new other ≡ map (after_result result.0) (uses_of engine.old other) }
+    ensures other_taken { (other : ℕ) → other ≢ hart → HasServed engine.old →
+        AreTaken engine.old other → uses_of engine.new other ≡ uses_of engine.old other }
 {
     let driven = core.drive();
     let cpu = for_hart(hart, driven);

@@ -1,11 +1,13 @@
 use Rattle.std.proofs.Common.{◌≡◌, inl, inr, false, Ok, Err, map, string_bytes, subst, ap, sym, ◌∙◌}
 use Rattle.xif_base.specs.Faults.{OnlyReads}
+use Rattle.xif_cli.specs.declared.answer.End.TheVariants.{Done}
 use Rattle.xif_cli.specs.Ending.{Means, is_built, has_targets}
 use Rattle.xif_cli.specs.Outcome.{Lookup, Answer, command_outcome, found}
 use Rattle.xif_cli.specs.Words as form
 use Rattle.xif_cli.specs.Words.{Form, IsCommand, form_of}
 use Rattle.xif_cli.proofs.Concluding.{done_so, broken_so}
 use Rattle.xif_cli.proofs.Forms.{one_form}
+use Rattle.xif_cli.proofs.Summing.{prints-the-sum}
 use Rattle.xif_cli.proofs.program.xif.Goals as goal
 
 pub returns-clause-output_is_defined : goal.returns-clause-output_is_defined
@@ -54,3 +56,9 @@ pub returns-clause-run_is_faithful : goal.returns-clause-run_is_faithful
 returns-clause-run_is_faithful g c = λ job is done m told.
     let same : form.Run job ≡ form_of c.in-Some.command = one_form (map string_bytes c.args.words.now) (form.Run job) (form_of c.in-Some.command) is c.in-Some.ensures.found in
     c.perform.ensures.faithful job (sym same) done m told
+
+pub returns-clause-gen_prints_the_sum : goal.returns-clause-gen_prints_the_sum
+returns-clause-gen_prints_the_sum g c = λ seed count is done m told.
+    let same : form.Gen seed count ≡ form_of c.in-Some.command = one_form (map string_bytes c.args.words.now) (form.Gen seed count) (form_of c.in-Some.command) is c.in-Some.ensures.found in
+    done_so (λ answer meant. prints-the-sum seed count (found m) answer is.in_range (ap (λ f. command_outcome f (found m)) same ∙ meant))
+    (c.perform.ensures.concludes.output Done done m told)

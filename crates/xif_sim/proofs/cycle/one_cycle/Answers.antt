@@ -1,8 +1,11 @@
-use Rattle.std.proofs.Common.{◌≡◌, ◌<◌, ap, subst, sym, ◌∙◌, rules}
+use Rattle.std.proofs.Common.{◌≡◌, ◌<◌, ap, map, subst, sym, ◌∙◌, rules}
 use Rattle.xif_base.specs.declared.params.Params.{Params}
 use Rattle.xif_base.specs.Params.{IsInRange}
 use Rattle.xif_signals.specs.Bus.{join_of, FitsWidths}
 use Rattle.cycle_spec.specs.Cycle.{for_hart, Machines, bus_at, core_next, engine_next}
+use Rattle.cycle_spec.specs.Engine.{units_of}
+use Rattle.hart_laws.specs.Harts.{HasServed, uses_of, after_result}
+use Rattle.hart_laws.proofs.Others.{served-cycle, others-units, others-uses, others-taken}
 use Rattle.coproc_engine.specs.Drives.{FitsCopOut}
 use Rattle.xif_sim.proofs.Faithful.{legal-cycle, session-cycle}
 use Rattle.xif_sim.proofs.Widths.{bus-fits}
@@ -33,3 +36,29 @@ returns-clause-session g c = λ setup session none x.
     let core : c.clock-log.new.self ≡ core_next m c.args.hart answer = search rules in
     let engine : c.clock.new.self ≡ engine_next m c.args.hart = search rules in
     session-cycle setup c.args.hart m session answer c.join-2.result c.clock-log.new.self c.clock.new.self bus core engine none x
+
+pub returns-clause-served : goal.returns-clause-served
+returns-clause-served g c = λ served.
+    let m : Machines = record { core = c.args.core.now; engine = c.args.engine.now } in
+    let engine : c.clock.new.self ≡ engine_next m c.args.hart = search rules in
+    subst HasServed (sym engine) (served-cycle c.args.hart m served)
+
+pub returns-clause-other_units : goal.returns-clause-other_units
+returns-clause-other_units g c = λ other n served.
+    let m : Machines = record { core = c.args.core.now; engine = c.args.engine.now } in
+    let engine : c.clock.new.self ≡ engine_next m c.args.hart = search rules in
+    ap (λ e. units_of e other) engine ∙ others-units c.args.hart other m served n
+
+pub returns-clause-other_uses : goal.returns-clause-other_uses
+returns-clause-other_uses g c = λ other n served.
+    let m : Machines = record { core = c.args.core.now; engine = c.args.engine.now } in
+    let engine : c.clock.new.self ≡ engine_next m c.args.hart = search rules in
+    let bus : c.join-2.result ≡ bus_at m c.args.hart = search rules in
+    ap (λ e. uses_of e other) engine ∙ others-uses c.args.hart other m served n
+    ∙ ap (λ b. map (after_result b) (uses_of c.args.engine.now other)) (sym bus)
+
+pub returns-clause-other_taken : goal.returns-clause-other_taken
+returns-clause-other_taken g c = λ other n served taken.
+    let m : Machines = record { core = c.args.core.now; engine = c.args.engine.now } in
+    let engine : c.clock.new.self ≡ engine_next m c.args.hart = search rules in
+    ap (λ e. uses_of e other) engine ∙ others-taken c.args.hart other m served n taken

@@ -1,8 +1,6 @@
--- The text of the summary, by what the run leaves.
+-- The summary of `gen`, by what the run leaves.
 use Rattle.std.proofs.Common.{◌≡◌, ◌+◌, ◌*◌, ◌++◌, ℕ, List, [], ◌∷◌, length, replicate, Some, Result, Ok, refl, sym, ap, subst, ◌∙◌, append_assoc, arith}
-use Rattle.std.specs.Prelude.{String}
 use Rattle.std.specs.Fmt.{digits}
-use Rattle.std.specs.declared.alloc.Global.{Global}
 use Rattle.coproc_config.specs.Bits.{low_half, high_half}
 use Rattle.coproc_config.specs.State.{accumulator_of}
 use Rattle.inorder_machine.specs.Machine.{register_in}
@@ -12,18 +10,16 @@ use Rattle.cycle_spec.specs.declared.log.End.TheVariants.{Stopped}
 use Rattle.cycle_spec.specs.Run.{Run, run_of}
 use Rattle.run_log.specs.Words.{hex_word, hex_double}
 use Rattle.xif_job.specs.declared.predictor.Kind.TheVariants.{Never}
+use Rattle.generator_laws.specs.Sums.{setup_of, IsRequest, EndsByEcall, Sums}
+use Rattle.generator_laws.proofs.Ending.{run-ends, run-sums}
 use Rattle.xif_cli.specs.declared.answer.End.TheVariants.{Done}
 use Rattle.xif_cli.specs.declared.status.Status.{Status}
-use Rattle.xif_cli.specs.Ending.{Means, texts_of}
 use Rattle.xif_cli.specs.Outcome.{Answer, Lookup, prints, command_outcome}
 use Rattle.xif_cli.specs.Simulated.{never, run_by, stop_of}
 use Rattle.xif_cli.specs.Summary.{counts_text, end_text, values_line, summary_of, generated_setup, generated_summary}
-use Rattle.xif_cli.specs.Words.{Gen, IsCommand}
-use Rattle.xif_cli.proofs.Forms.{one_form}
-use Rattle.generator_laws.specs.Sums.{setup_of, IsRequest, EndsByEcall, Sums}
-use Rattle.generator_laws.proofs.Ending.{run-ends, run-sums}
+use Rattle.xif_cli.specs.Sum.{sum_text, cuts_of, PrintsTheSum}
+use Rattle.xif_cli.specs.Words.{Gen, IsInRange}
 use lib.Chars.{codes}
-use Rattle.summary_laws.specs.Printed.{summary_text, cuts_of, PrintsTheSum}
 
 -- the summary by its parts
 abbrev text-by : (retired cuts cycles : ℕ) (end : End) (pc : ℕ) (registers : List ℕ) (units : List (List ℕ)) → List ℕ
@@ -44,14 +40,14 @@ ended = refl
 
 in-lines : (seed count cuts cycles : ℕ)
     → text-by (3 * count + 6) cuts cycles (Stopped Ecall) 36 (0 ∷ 0 ∷ seed ∷ low_half (count * seed) ∷ high_half (count * seed) ∷ replicate 27 0) ((count * seed ∷ 0 ∷ []) ∷ [])
-    ≡ summary_text seed count cuts cycles
+    ≡ sum_text seed count cuts cycles
 in-lines seed count cuts cycles =
     let values : List ℕ = values_line (low_half (count * seed)) (high_half (count * seed)) (count * seed) in
     let counts : List ℕ = counts_text (3 * count + 6) cuts cycles in
     ap (λ (e : List ℕ). counts ++ e ++ values) ended
     ∙ regroup (counts ++ codes " end=ecall pc=0x00000024\n") (codes "x3=") (hex_word (low_half (count * seed))) (codes " x4=") (hex_word (high_half (count * seed))) (codes " u0.a0=") (hex_double (count * seed)) (codes "\n")
 
-text-is : (seed count : ℕ) (run : Run) → EndsByEcall count run → Sums seed count run → summary_of run ≡ summary_text seed count (cuts_of run) (length run.buses)
+text-is : (seed count : ℕ) (run : Run) → EndsByEcall count run → Sums seed count run → summary_of run ≡ sum_text seed count (cuts_of run) (length run.buses)
 text-is seed count run e s =
     by-parts run
     ∙ (λ i. text-by (e.retired i) (cuts_of run) (length run.buses) (e.end i) (e.pc i) (s.registers i) (s.units i))
@@ -65,19 +61,18 @@ summary-is : (seed count : ℕ) → generated_summary seed count ≡ summary_of 
 unfolding generated_summary
 summary-is seed count = refl
 
-answered : (seed count : ℕ) (run : Run) → EndsByEcall count run → Sums seed count run → PrintsTheSum seed count run (prints Done (summary_of run))
-answered seed count run e s = record { end = refl; targets = refl; printed = text-is seed count run e s; cycles = e.cycles }
-
-pub prints-the-sum : (words : List (String Global)) (find : Lookup) (seed count : ℕ) (outcome : Result Answer Status) → IsCommand (texts_of words) (Gen seed count) → Means words find outcome
-    → (answer : Answer) × ((outcome ≡ Ok answer) × PrintsTheSum seed count (run_by Never (generated_setup seed count)) answer)
-prints-the-sum words find seed count outcome is means =
-    let form : means.0 ≡ Gen seed count = one_form (texts_of words) means.0 (Gen seed count) means.1.0 is in
-    let range = is.in_range in
+answered : (seed count : ℕ) → IsInRange (Gen seed count) → PrintsTheSum seed count (prints Done (generated_summary seed count))
+answered seed count range =
     let q : IsRequest seed count = record { seed_is = omega arith; some = omega arith; count_is = omega arith } in
     let run : Run = run_by Never (generated_setup seed count) in
     let e : EndsByEcall count run = subst (EndsByEcall count) (sym (run-is seed count)) (run-ends _ never seed count (record {}) q) in
     let s : Sums seed count run = subst (Sums seed count) (sym (run-is seed count)) (run-sums _ never seed count (record {}) q) in
-    let o : outcome ≡ Ok (prints Done (summary_of run)) =
-    sym means.1.1 ∙ ap (λ f. command_outcome f find) form ∙ ap (λ t. Ok (prints Done t)) (summary-is seed count)
-    in
-    (prints Done (summary_of run), (o, answered seed count run e s))
+    record { run = run; is_run = refl; end = refl; targets = refl; printed = summary-is seed count ∙ text-is seed count run e s; cycles = e.cycles }
+
+same_answer : (a b : Answer) → (Ok a : Result Answer Status) ≡ Ok b → a ≡ b
+same_answer a b e = cc
+
+-- what the command means is this answer, whatever files there are
+pub prints-the-sum : (seed count : ℕ) (find : Lookup) (answer : Answer) → IsInRange (Gen seed count) → command_outcome (Gen seed count) find ≡ Ok answer → PrintsTheSum seed count answer
+prints-the-sum seed count find answer range means =
+    subst (PrintsTheSum seed count) (same_answer (prints Done (generated_summary seed count)) answer means) (answered seed count range)
