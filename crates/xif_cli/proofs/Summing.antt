@@ -69,7 +69,10 @@ answered seed count range =
     let s : Sums seed count run = subst (Sums seed count) (sym (run-is seed count)) (run-sums _ never seed count (record {}) q) in
     record { run = run; is_run = refl; end = refl; targets = refl; printed = summary-is seed count ∙ text-is seed count run e s; cycles = e.cycles }
 
-same_answer : (a b : Answer) → (Ok a : Result Answer Status) ≡ Ok b → a ≡ b
+abbrev answer_ok : Answer → Result Answer Status
+answer_ok answer = Ok answer
+
+same_answer : (a b : Answer) → answer_ok a ≡ answer_ok b → a ≡ b
 same_answer a b e = cc
 
 -- what the command means is this answer, whatever files there are
