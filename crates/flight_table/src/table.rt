@@ -331,7 +331,7 @@ impl FlightTable {
     {
         match self.ring.pop_front() {
             Some(entry) => {
-                forget(&mut self.writers, entry.seq);
+                forget(&mut self.writers, &entry);
                 entry
             }
             None => unreachable!(),
