@@ -131,7 +131,10 @@ fn is_younger(writer: Option<u64>, seq: u64) -> bool
 fn writer_of(ring: &HeapCircularBuffer<Entry>, dual_write: bool, register: u8) -> Option<u64>
     ensures { result ≡ writer_of dual_write ring.now.items register }
 {
-    youngest_writer(ring, dual_write, ring.len(), register).map(|entry| entry.seq)
+    match youngest_writer(ring, dual_write, ring.len(), register) {
+        Some(entry) => Some(entry.seq),
+        None => None,
+    }
 }
 
 /// The first register that an entry may write. If it may write another, that is the one behind it.
