@@ -150,7 +150,7 @@ impl Engine {
     {
         let starts = self.starts(cpu);
         let issue_start = self.issue_start(starts, cpu);
-        let register_start = self.register_start(starts, cpu);
+        let register_owner = self.register_owner(starts, cpu);
         let offered = start_of(self.offered_use());
         start_step(&mut self.uses, starts, cpu, self.cycle);
         let uses = self.uses.as_mut_slice();
@@ -176,7 +176,7 @@ impl Engine {
         );
         self.register_turns = transactions_after(
             self.register_turns,
-            owner_if(cpu.register_valid, register_start),
+            register_owner,
             cop.register_ready,
         );
         self.result_waiting = result_waiting_after(offered, input);
@@ -294,6 +294,19 @@ impl Engine {
         ensures { result ≡ spec.register_start self.now cpu.now }
     {
         self.started_start(starts, register_key(cpu), cpu)
+    }
+
+    /// Whose transaction is on the channel, if there is one.
+    fn register_owner(&self, starts: bool, cpu: &CpuOut) -> Option<u64>
+        requires { starts ≡ spec.starts self.now cpu.now }
+        ensures { result
+            ≡ spec.owner_if cpu.now.register_valid (spec.register_start self.now cpu.now) }
+    {
+        if cpu.register_valid {
+            Some(self.register_start(starts, cpu))
+        } else {
+            None
+        }
     }
 
     fn register_ready(&self, starts: bool, issue_ready: bool, cpu: &CpuOut) -> bool

@@ -106,7 +106,7 @@ invariant_of-self c =
     let issues : AreCountedBy (x.cycle + 1) c.transactions_after-self-inside.result =
     subst (AreCountedBy (x.cycle + 1)) (sym c.transactions_after-self-inside.ensures) (after_counted x.cycle x.issue_turns c.owner_if.result c.args.cop.now.issue_ready counts.issues) in
     let registers : AreCountedBy (x.cycle + 1) c.transactions_after-self-inside-2.result =
-    subst (AreCountedBy (x.cycle + 1)) (sym c.transactions_after-self-inside-2.ensures) (after_counted x.cycle x.register_turns c.owner_if-2.result c.args.cop.now.register_ready counts.registers) in
+    subst (AreCountedBy (x.cycle + 1)) (sym c.transactions_after-self-inside-2.ensures) (after_counted x.cycle x.register_turns c.register_owner-register_owner.result c.args.cop.now.register_ready counts.registers) in
     let fit : All (IsStateOf x.set) c.look_ahead.new.ahead = c.look_ahead.ensures.fits in (
       c.self.invariant.0,
       (
@@ -167,8 +167,8 @@ returns-clause-after c =
     c.transactions_after-self-inside.ensures
     ∙ ap (λ owner. transactions_after x.issue_turns owner cop.issue_ready) issue
     ∙ ap (λ (y : Engine). transactions_after y.issue_turns (spec.owner_if cpu.issue_valid (spec.issue_start e cpu)) cop.issue_ready) v in
-    let register : c.owner_if-2.result ≡ spec.owner_if cpu.register_valid (spec.register_start e cpu) =
-    c.owner_if-2.ensures ∙ ap (spec.owner_if cpu.register_valid) c.register_start-register_start.ensures in
+    let register : c.register_owner-register_owner.result ≡ spec.owner_if cpu.register_valid (spec.register_start e cpu) =
+    c.register_owner-register_owner.ensures in
     let registers : c.transactions_after-self-inside-2.result ≡ transactions_after e.register_turns (spec.owner_if cpu.register_valid (spec.register_start e cpu)) cop.register_ready =
     c.transactions_after-self-inside-2.ensures
     ∙ ap (λ owner. transactions_after x.register_turns owner cop.register_ready) register
