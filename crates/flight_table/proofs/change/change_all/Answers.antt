@@ -1,4 +1,4 @@
-use Rattle.std.proofs.Common.{◌≡◌, ◌<◌, ◌≤◌, false, Some, length, map, set, slice_get, sym, ap, subst, ◌∙◌, arith}
+use Rattle.std.proofs.Common.{◌≡◌, ◌<◌, ◌≤◌, false, Some, length, set, slice_get, sym, ap, subst, ◌∙◌, arith}
 use Rattle.circular_buffer.specs.Buffer.{buffer}
 use Rattle.cycle_spec.specs.Flight.{older_than}
 use Rattle.flight_table.specs.Change.{changed, is_release}
