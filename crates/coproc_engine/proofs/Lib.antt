@@ -4,6 +4,7 @@ pub mod Keys
 pub mod Kept
 pub mod Narrow
 pub mod Latest
+pub mod Starts
 pub mod New
 pub mod Copied
 pub mod Counted

@@ -1,11 +1,14 @@
 //! The engine: what the coprocessors drive in a cycle, and their state after it.
-ghost use Rattle.std.specs.Prelude.{◌≡◌, ◌&&◌, ◌<◌, ◌≤◌, ◌^◌, IfOk, IfSome, IsTrue, Option, length, replicate, All};
+ghost use Rattle.std.specs.Prelude.{◌≡◌, ◌&&◌, ◌<◌, ◌≤◌, ◌^◌, ◌==◌, if◌then◌else◌, true, IfOk, IfSome, IsTrue, Option, option_copied, length, replicate, All};
+ghost use Rattle.std.specs.Option.{option_map};
+ghost use Rattle.rv32_table.specs.Instr.{rd_field as rd_of};
 ghost use Rattle.xif_base.specs.Params.{IsInRange};
 ghost use Rattle.xif_base.specs.declared.params.Key.{Key};
 ghost use Rattle.xif_drive.specs.Scripts.{IsLawful as IsLawfulScript};
 ghost use Rattle.coproc_config.specs.Check.{IsLawful as IsLawfulSet};
 ghost use Rattle.coproc_config.specs.Accept.{IsAllowed};
 ghost use Rattle.coproc_config.specs.State.{zeros, IsStateOf};
+ghost use Rattle.cycle_spec.specs.declared.use_of.Use.{Use};
 ghost use Rattle.cycle_spec.specs.State.{new_engine};
 ghost use Rattle.cycle_spec.specs.Engine.{engine_drive, engine_clock, units_of, units_ahead};
 ghost use Rattle.cycle_spec.specs.Engine as spec;
@@ -15,8 +18,8 @@ ghost use Rattle.coproc_engine.specs.Fits.{IsKey, FitsResult, room_of};
 
 use crate::ahead::look_ahead;
 use crate::find::{
-    goes_on, is_killed, is_within, issue_key, latest, offered_by, register_key, register_read_of,
-    same_key, start_or, writeback_of,
+    goes_on, is_killed, is_within, issue_key, latest, latest_start, offered_by, register_key,
+    register_read_of, same_key, start_or, writeback_of,
 };
 use crate::settle::settle;
 use crate::steps::{answer_step, decide_step, end_step, given_step, new_use, start_step};
@@ -28,6 +31,21 @@ use std::marker::Model;
 use xif_base::{Key, NoMemory, Params};
 use xif_drive::Script;
 use xif_signals::{CopOut, CpuIn, CpuOut};
+
+/// Each channel is idle.
+const NOTHING: CopOut = CopOut {
+    issue_ready: false,
+    issue_accept: false,
+    issue_writeback: 0,
+    issue_register_read: 0,
+    register_ready: false,
+    result_valid: false,
+    result_hartid: 0,
+    result_id: 0,
+    result_data: 0,
+    result_rd: 0,
+    result_we: 0,
+};
 
 /// The coprocessors, for all harts.
 #[derive(Debug, Drop)]
@@ -132,8 +150,8 @@ impl Engine {
     {
         let starts = self.starts(cpu);
         let issue_start = self.issue_start(starts, cpu);
-        let register_start = self.register_start(starts, cpu);
-        let offered = self.offered_use();
+        let register_owner = self.register_owner(starts, cpu);
+        let offered = start_of(self.offered_use());
         start_step(&mut self.uses, starts, cpu, self.cycle);
         let uses = self.uses.as_mut_slice();
         answer_step(
@@ -158,7 +176,7 @@ impl Engine {
         );
         self.register_turns = transactions_after(
             self.register_turns,
-            owner_if(cpu.register_valid, register_start),
+            register_owner,
             cop.register_ready,
         );
         self.result_waiting = result_waiting_after(offered, input);
@@ -207,11 +225,24 @@ impl Engine {
         }
     }
 
+    /// The start of that use; without one, this cycle stands for it.
+    fn started_start(&self, starts: bool, key: Key, cpu: &CpuOut) -> u64
+        requires { starts ≡ spec.starts self.now cpu.now }
+        ensures { result
+            ≡ spec.start_of key (spec.started_uses self.now cpu.now) self.now.cycle }
+    {
+        if starts && same_key(issue_key(cpu), key) {
+            self.cycle
+        } else {
+            latest_start(key, &self.uses, self.cycle)
+        }
+    }
+
     fn issue_start(&self, starts: bool, cpu: &CpuOut) -> u64
         requires { starts ≡ spec.starts self.now cpu.now }
         ensures { result ≡ spec.issue_start self.now cpu.now }
     {
-        start_or(self.started_latest(starts, issue_key(cpu), cpu), self.cycle)
+        self.started_start(starts, issue_key(cpu), cpu)
     }
 
     /// What the units answer to the word.
@@ -262,10 +293,20 @@ impl Engine {
         requires { starts ≡ spec.starts self.now cpu.now }
         ensures { result ≡ spec.register_start self.now cpu.now }
     {
-        start_or(
-            self.started_latest(starts, register_key(cpu), cpu),
-            self.cycle,
-        )
+        self.started_start(starts, register_key(cpu), cpu)
+    }
+
+    /// Whose transaction is on the channel, if there is one.
+    fn register_owner(&self, starts: bool, cpu: &CpuOut) -> Option<u64>
+        requires { starts ≡ spec.starts self.now cpu.now }
+        ensures { result
+            ≡ spec.owner_if cpu.now.register_valid (spec.register_start self.now cpu.now) }
+    {
+        if cpu.register_valid {
+            Some(self.register_start(starts, cpu))
+        } else {
+            None
+        }
     }
 
     fn register_ready(&self, starts: bool, issue_ready: bool, cpu: &CpuOut) -> bool
@@ -298,9 +339,9 @@ impl Engine {
     // ---- the result channel
 
     /// The use whose result is offered.
-    fn offered_use(&self) -> Option<Use>
-        ensures value { result ≡ spec.offered_use self.now }
-        ensures fits { IfSome result (FitsResult (self.now).params) }
+    fn offered_use(&self) -> Option<&Use>
+        ensures value { option_copied result ≡ spec.offered_use self.now }
+        ensures fits { IfSome (option_copied result) (FitsResult (self.now).params) }
     {
         offered_by(self.result_waiting, &self.script, self.cycle, &self.uses)
     }
@@ -352,19 +393,38 @@ fn cop_out(
     issue_ready: bool,
     hit: Option<Hit>,
     register_ready: bool,
-    offered: Option<Use>,
+    offered: Option<&Use>,
 ) -> CopOut
-    ensures { result ≡ spec.cop_out issue_ready hit register_ready offered }
+    ensures { result ≡ spec.cop_out issue_ready hit register_ready (option_copied offered.entry) }
 {
-    let found = use_or(offered);
-    let writeback = writeback_of(found.hit);
-    CopOut {
+    let channels = CopOut {
         issue_ready,
         issue_accept: hit.is_some(),
         issue_writeback: writeback_of(hit),
         issue_register_read: register_read_of(hit),
         register_ready,
-        result_valid: offered.is_some(),
+        ..NOTHING
+    };
+    match offered {
+        None => channels,
+        Some(found) => with_result(channels, found),
+    }
+}
+
+/// The result channel offers the result of a use.
+fn with_result(channels: CopOut, found: &Use) -> CopOut
+    ensures { result ≡ record channels {
+      result_valid = true;
+      result_hartid = (found.now).key.hart;
+      result_id = (found.now).key.id;
+      result_data = (found.now).result;
+      result_rd = if spec.writeback_of (found.now).hit == 0 then 0 else rd_of (found.now).word;
+      result_we = spec.writeback_of (found.now).hit;
+    } }
+{
+    let writeback = writeback_of(found.hit);
+    CopOut {
+        result_valid: true,
         result_hartid: found.key.hart,
         result_id: found.key.id,
         result_data: found.result,
@@ -374,16 +434,7 @@ fn cop_out(
             rd_field(found.word)
         },
         result_we: writeback,
-    }
-}
-
-/// A use, or one whose fields are 0.
-fn use_or(found: Option<Use>) -> Use
-    ensures { result ≡ spec.use_or found }
-{
-    match found {
-        None => new_use(Key { hart: 0, id: 0 }, 0, 0),
-        Some(found) => found,
+        ..channels
     }
 }
 
@@ -393,13 +444,20 @@ fn owner_if(valid: bool, start: u64) -> Option<u64>
     if valid { Some(start) } else { None }
 }
 
-fn result_waiting_after(offered: Option<Use>, input: &CpuIn) -> Option<u64>
-    ensures { result ≡ spec.result_waiting_after offered input.now }
+fn start_of(found: Option<&Use>) -> Option<u64>
+    ensures { result ≡ option_map (λ u. u.start) (option_copied found.entry) }
 {
-    match offered {
-        Some(offered) if !input.result_ready => Some(offered.start),
-        _ => None,
+    match found {
+        Some(found) => Some(found.start),
+        None => None,
     }
+}
+
+fn result_waiting_after(offered: Option<u64>, input: &CpuIn) -> Option<u64>
+    ensures { (found : Option Use) → offered ≡ option_map (λ u. u.start) found
+        → result ≡ spec.result_waiting_after found input.now }
+{
+    if input.result_ready { None } else { offered }
 }
 
 fn accepted_after(accepted: u64, cpu: &CpuOut, cop: &CopOut) -> u64

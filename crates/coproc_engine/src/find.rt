@@ -1,5 +1,5 @@
 //! What is found among the uses.
-ghost use Rattle.std.specs.Prelude.{◌≡◌, ◌<◌, find, Option, Some, None};
+ghost use Rattle.std.specs.Prelude.{◌≡◌, ◌<◌, find, option_copied, Option, Some, None};
 ghost use Rattle.std.specs.List.{list_any};
 ghost use Rattle.std.specs.Option.{option_map_or};
 ghost use Rattle.xif_base.specs.declared.params.Key.{Key};
@@ -101,6 +101,19 @@ pub fn latest(key: Key, uses: &[Use]) -> Option<Use>
     newest
 }
 
+/// The start of the latest use of a key; without one, this cycle stands for it.
+pub fn latest_start(key: Key, uses: &[Use], cycle: u64) -> u64
+    ensures { result ≡ spec.start_of key uses.now cycle }
+{
+    let mut start = cycle;
+    for found in uses {
+        if same_key(found.key, key) {
+            start = found.start;
+        }
+    }
+    start
+}
+
 /// Whether the issue transaction of the last cycle goes on with a key.
 pub fn goes_on(waiting: Option<Transaction>, key: Key, uses: &[Use]) -> bool
     ensures { result ≡ spec.goes_on_in waiting key uses.now }
@@ -139,9 +152,15 @@ pub fn start_or(found: Option<Use>, cycle: u64) -> u64
 }
 
 /// The use whose result is offered in a cycle.
-pub fn offered_by(waiting: Option<u64>, script: &Script, cycle: u64, uses: &[Use]) -> Option<Use>
+pub fn offered_by<'a>(
+    waiting: Option<u64>,
+    script: &Script,
+    cycle: u64,
+    uses: &'a [Use],
+) -> Option<&'a Use>
     requires { IsLawful script.now }
-    ensures { result ≡ spec.offered_by waiting script.now.result cycle uses.now }
+    ensures { option_copied result
+        ≡ spec.offered_by waiting script.now.result cycle uses.now }
 {
     match waiting {
         None => first_due(script, cycle, uses),
@@ -149,13 +168,13 @@ pub fn offered_by(waiting: Option<u64>, script: &Script, cycle: u64, uses: &[Use
     }
 }
 
-fn first_due(script: &Script, cycle: u64, uses: &[Use]) -> Option<Use>
+fn first_due<'a>(script: &Script, cycle: u64, uses: &'a [Use]) -> Option<&'a Use>
     requires { IsLawful script.now }
-    ensures { result ≡ find (spec.is_due script.now.result cycle) uses.now }
+    ensures { option_copied result ≡ find (spec.is_due script.now.result cycle) uses.now }
 {
     for found in uses {
         if is_due(script, cycle, found) {
-            return Some(*found);
+            return Some(found);
         }
     }
     None
@@ -177,12 +196,12 @@ fn is_past_ready(delay: u16, cycle: u64, ready: Option<u64>) -> bool
     }
 }
 
-fn first_start(start: u64, uses: &[Use]) -> Option<Use>
-    ensures { result ≡ find (spec.has_start start) uses.now }
+fn first_start(start: u64, uses: &[Use]) -> Option<&Use>
+    ensures { option_copied result ≡ find (spec.has_start start) uses.now }
 {
     for found in uses {
         if found.start == start {
-            return Some(*found);
+            return Some(found);
         }
     }
     None

@@ -1,11 +1,13 @@
 //! The steps of a cycle on the uses, in their order.
 ghost use Rattle.std.specs.Prelude.{◌≡◌, ◌<◌, ◌≤◌, not, length, map, filter, vec_capacity, Option, IsTrue};
+ghost use Rattle.std.specs.Option.{option_map};
 ghost use Rattle.xif_base.specs.Params.{IsInRange};
 ghost use Rattle.coproc_config.specs.Check.{IsLawful};
 ghost use Rattle.coproc_config.specs.Accept.{hit_of};
 ghost use Rattle.xif_signals.specs.declared.signal.Signal.TheVariants.{ResultData, ResultWe};
 ghost use Rattle.xif_signals.specs.Signal.{width_of};
 ghost use Rattle.xif_session.specs.Facts as session;
+ghost use Rattle.cycle_spec.specs.declared.use_of.Use.{Use};
 ghost use Rattle.cycle_spec.specs.Engine as spec;
 ghost use Rattle.coproc_engine.specs.Fits.{HaveEntries, AreNarrow};
 
@@ -101,18 +103,16 @@ fn answer(uses: &mut [Use], start: u64, hit: Option<Hit>, order: u64)
     ensures { uses.new ≡ map (spec.with_answer start hit order) uses.old }
 {
     for entry in uses.iter_mut() {
-        *entry = with_answer(start, hit, order, *entry);
+        answer_use(entry, start, hit, order);
     }
 }
 
-fn with_answer(start: u64, hit: Option<Hit>, order: u64, entry: Use) -> Use
-    ensures { result ≡ spec.with_answer start hit order entry }
+fn answer_use(entry: &mut Use, start: u64, hit: Option<Hit>, order: u64)
+    ensures { entry.new ≡ spec.with_answer start hit order entry.old }
 {
-    let is_it = entry.start == start;
-    Use {
-        hit: if is_it { hit } else { entry.hit },
-        order: if is_it { order } else { entry.order },
-        ..entry
+    if entry.start == start {
+        entry.hit = hit;
+        entry.order = order;
     }
 }
 
@@ -134,18 +134,16 @@ fn give(uses: &mut [Use], start: u64, lanes: [u64; 3])
     ensures { uses.new ≡ map (spec.with_operands start lanes) uses.old }
 {
     for entry in uses.iter_mut() {
-        *entry = with_operands(start, lanes, *entry);
+        give_use(entry, start, lanes);
     }
 }
 
-fn with_operands(start: u64, lanes: [u64; 3], entry: Use) -> Use
-    ensures { result ≡ spec.with_operands start lanes entry }
+fn give_use(entry: &mut Use, start: u64, lanes: [u64; 3])
+    ensures { entry.new ≡ spec.with_operands start lanes entry.old }
 {
-    let is_it = entry.start == start;
-    Use {
-        given: entry.given || is_it,
-        lanes: if is_it { lanes } else { entry.lanes },
-        ..entry
+    if entry.start == start {
+        entry.given = true;
+        entry.lanes = lanes;
     }
 }
 
@@ -168,17 +166,14 @@ fn decide(uses: &mut [Use], kill: bool, named: &Use)
     ensures { uses.new ≡ map (spec.with_decision kill named.now) uses.old }
 {
     for entry in uses.iter_mut() {
-        *entry = with_decision(kill, named, *entry);
+        decide_use(entry, kill, named);
     }
 }
 
-fn with_decision(kill: bool, named: &Use, entry: Use) -> Use
-    ensures { result ≡ spec.with_decision kill named.now entry }
+fn decide_use(entry: &mut Use, kill: bool, named: &Use)
+    ensures { entry.new ≡ spec.with_decision kill named.now entry.old }
 {
-    Use {
-        decision: decision_after(is_in_group(kill, named, &entry), kill, entry.decision),
-        ..entry
-    }
+    entry.decision = decision_after(is_in_group(kill, named, entry), kill, entry.decision);
 }
 
 /// A kill takes the named use and those of its hart that started later, a release the named one
@@ -219,12 +214,13 @@ fn is_undecided(decision: Decision) -> bool
 // ---- the result handshake
 
 /// At the result handshake the use whose result is offered is finished.
-pub fn end_step(uses: &mut [Use], offered: Option<Use>, cop: &CopOut, input: &CpuIn)
-    ensures { uses.new ≡ spec.end_step offered cop.now input.now uses.old }
+pub fn end_step(uses: &mut [Use], offered: Option<u64>, cop: &CopOut, input: &CpuIn)
+    ensures { (found : Option Use) → offered ≡ option_map (λ u. u.start) found
+        → uses.new ≡ spec.end_step found cop.now input.now uses.old }
 {
     if cop.result_valid && input.result_ready {
-        if let Some(offered) = offered {
-            end(uses, offered.start);
+        if let Some(start) = offered {
+            end(uses, start);
         }
     }
 }
@@ -233,15 +229,14 @@ fn end(uses: &mut [Use], start: u64)
     ensures { uses.new ≡ map (spec.with_end start) uses.old }
 {
     for entry in uses.iter_mut() {
-        *entry = with_end(start, *entry);
+        end_use(entry, start);
     }
 }
 
-fn with_end(start: u64, entry: Use) -> Use
-    ensures { result ≡ spec.with_end start entry }
+fn end_use(entry: &mut Use, start: u64)
+    ensures { entry.new ≡ spec.with_end start entry.old }
 {
-    Use {
-        finished: entry.finished || entry.start == start,
-        ..entry
+    if entry.start == start {
+        entry.finished = true;
     }
 }

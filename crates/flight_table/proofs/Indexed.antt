@@ -12,7 +12,7 @@ use Rattle.xif_session.specs.declared.fact.Response.{Response}
 use Rattle.cycle_spec.specs.declared.entry.Entry.{Entry}
 use Rattle.cycle_spec.specs.declared.entry.EntryKind.{EntryKind}
 use Rattle.cycle_spec.specs.declared.entry.EntryKind.TheVariants.{Local, Unknown, Nowhere}
-use Rattle.cycle_spec.specs.Flight.{has_seq, may_write, may_write_kind, may_write_word, with_response, count_through}
+use Rattle.cycle_spec.specs.Flight.{is_unknown, is_unknown_kind, has_seq, may_write, may_write_kind, may_write_word, with_response, count_through}
 use Rattle.flight_table.specs.Table.{writer_of}
 use Rattle.flight_table.specs.Index.{Rises, first_target, first_target_by, forgotten}
 use Rattle.flight_table.proofs.Scans.{last_hit}
@@ -151,6 +151,27 @@ no_target dual_write r e n m = ap (λ t. not (r == 0) && t) (by_kind e.kind n m)
     by_kind (Local i) n m = target_is i r n
     by_kind Unknown n m = word_target dual_write e.response (rd_field e.word) r n m
     by_kind Nowhere n m = refl
+
+-- behind its first target only an unknown word may write
+pub no_second : (dual_write : Bool) (r : ℕ) (e : Entry) → is_unknown e ≡ false → r ≢ first_target e → may_write dual_write r e ≡ false
+no_second dual_write r e known n = ap (λ t. not (r == 0) && t) (by_kind e.kind known n) ∙ never (not (r == 0))
+  where
+    never : (t : Bool) → (t && false) ≡ false
+    never true = refl
+    never false = refl
+
+    clash : true ≡ false → ⊥
+    clash h = cc
+
+    by_kind : (kind : EntryKind) → is_unknown_kind kind ≡ false → r ≢ first_target_by kind e.word → may_write_kind dual_write kind e r ≡ false
+    by_kind (Local i) known n = target_is i r n
+    by_kind Unknown known n = absurd (clash known)
+    by_kind Nowhere known n = refl
+
+-- the oldest is gone, and doesn't write the register
+pub writer_passed : (dual_write : Bool) (e : Entry) (es : List Entry) (r : ℕ) → may_write dual_write r e ≡ false → writer_of dual_write (e ∷ es) r ≡ writer_of dual_write es r
+writer_passed dual_write e es r none =
+    ap (λ t. option_map (λ (x : Entry). x.seq) (last_or None (cond t (e ∷ filter (may_write dual_write r) es) (filter (may_write dual_write r) es)))) none
 
 -- a response changes what its entry may write, and only that
 one_answered : (dual_write : Bool) (s : ℕ) (response : Response) (r : ℕ) (x e : Entry) → r ≢ first_target x → r ≢ first_target x + 1 → (has_seq s e ≡ true → e ≡ x)

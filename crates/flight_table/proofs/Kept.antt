@@ -5,7 +5,6 @@ use Rattle.std.specs.Option.{option_map}
 use Rattle.std.specs.List.{AllByRecursion, last_or}
 use Rattle.std.proofs.lemmas.Grind.{common_steps}
 use Rattle.std.proofs.lemmas.List.{length_push, length-map}
-use Rattle.std.proofs.lemmas.Option.{slice_get-map}
 use Rattle.xif_session.specs.declared.fact.Response.{Response}
 use Rattle.cycle_spec.specs.declared.entry.Entry.{Entry}
 use Rattle.cycle_spec.specs.Flight.{has_seq, older_than, count_through, may_write, youngest_writer, with_response}
@@ -15,8 +14,8 @@ use Rattle.flight_table.specs.Change.{changed, keeps_response}
 use Rattle.flight_table.specs.Table.{Table, writer_of}
 use Rattle.flight_table.specs.Index.{Rises, IsIndex, IsKept, first_target, forgotten}
 use Rattle.flight_table.proofs.Order.{rises_push, rises_take, rises_behind, rises_map, older_than_youngest, found_youngest, named_alone, none_named}
-use Rattle.flight_table.proofs.Indexed.{writer_pushed, writer_dropped, writer_cut, writer_mapped, same_writes, all_answered, none_answered}
-use Rattle.flight_table.proofs.Slots.{MendedOr}
+use Rattle.flight_table.proofs.Indexed.{writer_pushed, writer_dropped, writer_passed, writer_cut, writer_mapped, same_writes, all_answered, none_answered}
+use Rattle.flight_table.proofs.Slots.{MendedOr, ForgottenOr}
 
 -- ---- what is read by it
 
@@ -65,11 +64,13 @@ kept_push dual_write es e old new i n r l = n r l ∙ go (may_write dual_write r
     go true = refl
     go false = i r l
 
-pub kept_drop : (dual_write : Bool) (least next : ℕ) (e : Entry) (es : List Entry) (old : List (Option ℕ)) → Rises least (e ∷ es) next → IsIndex dual_write (e ∷ es) old → IsIndex dual_write es (map (forgotten e.seq) old)
-kept_drop dual_write least next e es old h i r l =
-    slice_get-map (forgotten e.seq) old r
-    ∙ ap (λ o. option_map (forgotten e.seq) o) (i r l)
-    ∙ ap (λ w. Some w) (sym (writer_dropped dual_write least next e es r h))
+pub kept_drop : (dual_write : Bool) (least next : ℕ) (e : Entry) (es : List Entry) (old new : List (Option ℕ)) → Rises least (e ∷ es) next → IsIndex dual_write (e ∷ es) old
+    → ((r : ℕ) → r < 32 → ForgottenOr dual_write e old new r) → IsIndex dual_write es new
+kept_drop dual_write least next e es old new h i m r l =
+    ⊎_elim
+    (λ q. q ∙ ap (λ o. option_map (forgotten e.seq) o) (i r l) ∙ ap (λ w. Some w) (sym (writer_dropped dual_write least next e es r h)))
+    (λ q. q.0 ∙ i r l ∙ ap (λ w. Some w) (writer_passed dual_write e es r q.1))
+    (m r l)
 
 pub kept_cut : (dual_write : Bool) (s least next : ℕ) (es : List Entry) (old new : List (Option ℕ)) → Rises least es next → IsIndex dual_write es old
     → ((r : ℕ) → r < 32 → MendedOr dual_write (take (count_through s es) es) s old new r) → IsIndex dual_write (take (count_through s es) es) new
@@ -142,16 +143,16 @@ push_kept t e old new k s room n =
       index = kept_push t.dual_write t.entries e old new k.index n;
     }
 
-pub drop_kept : (t : Table) (e : Entry) (old : List (Option ℕ)) → IsKept t old → t.entries ≡ e ∷ drop 1 t.entries
-    → IsKept (record t { entries = drop 1 t.entries }) (map (forgotten e.seq) old)
-drop_kept t e old k parts =
+pub drop_kept : (t : Table) (e : Entry) (old new : List (Option ℕ)) → IsKept t old → t.entries ≡ e ∷ drop 1 t.entries
+    → ((r : ℕ) → r < 32 → ForgottenOr t.dual_write e old new r) → IsKept (record t { entries = drop 1 t.entries }) new
+drop_kept t e old new k parts m =
     let long : length t.entries ≡ length (drop 1 t.entries) + 1 = ap length parts ∙ omega arith in
     let rises : Rises 0 (e ∷ drop 1 t.entries) t.next_seq = subst (λ es. Rises 0 es t.next_seq) parts k.rises in
     record {
       room = omega (arith, long, k.room);
       window = k.window;
       rises = rises_behind 0 t.next_seq e (drop 1 t.entries) rises;
-      index = kept_drop t.dual_write 0 t.next_seq e (drop 1 t.entries) old rises (subst (λ es. IsIndex t.dual_write es old) parts k.index);
+      index = kept_drop t.dual_write 0 t.next_seq e (drop 1 t.entries) old new rises (subst (λ es. IsIndex t.dual_write es old) parts k.index) m;
     }
 
 pub cut_kept : (t : Table) (s n : ℕ) (old new : List (Option ℕ)) → IsKept t old → n ≡ count_through s t.entries

@@ -4,4 +4,5 @@ pub mod Indexed
 pub mod Slots
 pub mod OlderOnes
 pub mod Kept
+pub mod Single
 pub mod Counts

@@ -1,10 +1,11 @@
 -- The index under the changes of single registers.
-use Rattle.std.proofs.Common.{◌≡◌, ◌≢◌, ◌<◌, ◌≤◌, ◌+◌, ◌⊎◌, ℕ, Bool, Option, Some, List, slice_get, min, inl, inr, ⊎_elim, if◌then◌else◌, ◌∙◌, arith, sym, ap, subst}
+use Rattle.std.proofs.Common.{◌≡◌, ◌≢◌, ◌<◌, ◌≤◌, ◌+◌, ◌⊎◌, ℕ, Bool, Option, Some, List, slice_get, min, inl, inr, ⊎_elim, if◌then◌else◌, false, ◌∙◌, arith, sym, ap, subst}
+use Rattle.std.specs.Option.{option_map}
 use Rattle.std.proofs.lemmas.Bool.{cases_eq}
 use Rattle.cycle_spec.specs.declared.entry.Entry.{Entry}
 use Rattle.cycle_spec.specs.Flight.{may_write}
 use Rattle.flight_table.specs.Table.{writer_of}
-use Rattle.flight_table.specs.Index.{first_target}
+use Rattle.flight_table.specs.Index.{first_target, forgotten}
 use Rattle.flight_table.proofs.Indexed.{no_target}
 
 -- of a new youngest entry something is noted at its first target and behind it
@@ -30,6 +31,32 @@ noted v dual_write e old mid new a b a_is b_is named_a others_a named_b others_b
         let past : r ≢ first_target e + 1 = λ k. n (omega (arith, k, a_is, b_is, l)) in
         others_b r n ∙ others_a r m
         ∙ sym (ap (λ t. if t then Some v else slice_get old r) (no_target dual_write r e (λ k. m (k ∙ sym a_is)) past))
+
+-- what is so of a register behind an entry that is gone
+abbrev pub ForgottenOr : (dual_write : Bool) → Entry → (old new : List (Option ℕ)) → ℕ → Type 0
+ForgottenOr dual_write e old new r =
+    (slice_get new r ≡ option_map (forgotten e.seq) (slice_get old r))
+    ⊎ ((slice_get new r ≡ slice_get old r) × (may_write dual_write r e ≡ false))
+
+-- it is forgotten at its first target and behind it
+pub forgot : (dual_write : Bool) (e : Entry) (old mid new : List (Option ℕ)) (a b : ℕ) → a ≡ first_target e → b ≡ min (a + 1) 255
+    → (a < 32 → slice_get mid a ≡ option_map (forgotten e.seq) (slice_get old a)) → ((r : ℕ) → r ≢ a → slice_get mid r ≡ slice_get old r)
+    → (b < 32 → slice_get new b ≡ option_map (forgotten e.seq) (slice_get mid b)) → ((r : ℕ) → r ≢ b → slice_get new r ≡ slice_get mid r)
+    → (r : ℕ) → r < 32 → ForgottenOr dual_write e old new r
+forgot dual_write e old mid new a b a_is b_is named_a others_a named_b others_b r l =
+    ⊎_elim at_b (λ n. ⊎_elim (at_a n) (elsewhere n) (cases_eq r a)) (cases_eq r b)
+  where
+    at_b : r ≡ b → ForgottenOr dual_write e old new r
+    at_b q = subst (ForgottenOr dual_write e old new) (sym q)
+        (inl (named_b (omega (arith, q)) ∙ ap (option_map (forgotten e.seq)) (others_a b (λ k. absurd (omega (arith, k, q, b_is, l))))))
+
+    at_a : r ≢ b → r ≡ a → ForgottenOr dual_write e old new r
+    at_a n q = inl (others_b r n ∙ subst (λ k. slice_get mid k ≡ option_map (forgotten e.seq) (slice_get old k)) (sym q) (named_a (omega (arith, q))))
+
+    elsewhere : r ≢ b → r ≢ a → ForgottenOr dual_write e old new r
+    elsewhere n m =
+        let past : r ≢ first_target e + 1 = λ k. n (omega (arith, k, a_is, b_is, l)) in
+        inr (others_b r n ∙ others_a r m, no_target dual_write r e (λ k. m (k ∙ sym a_is)) past)
 
 -- what is so of a register, whose writer is mended or old enough
 abbrev pub MendedOr : (dual_write : Bool) → List Entry → (seq : ℕ) → (old new : List (Option ℕ)) → ℕ → Type 0

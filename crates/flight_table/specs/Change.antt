@@ -14,6 +14,11 @@ changed (Result write) seq = with_result seq write
 changed (Done write store next) seq = with_line seq (line_with write store next)
 changed (Stop cause) seq = with_stop seq cause
 
+-- it is for older entries too
+abbrev pub is_release : Change → Bool
+is_release Release = true
+is_release _ = false
+
 -- it leaves what the entries may write
 abbrev pub keeps_response : Change → Bool
 keeps_response (Response response) = false

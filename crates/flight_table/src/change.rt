@@ -1,10 +1,13 @@
 //! The changes of entries, by their numbers.
-ghost use Rattle.std.specs.Prelude.{◌≡◌, map};
+ghost use Rattle.std.specs.Prelude.{◌≡◌, ◌<◌, ℕ, Some, length, map, set, slice_get};
 ghost use Rattle.circular_buffer.specs.Buffer.{buffer};
 ghost use Rattle.cycle_spec.specs.Flight.{with_release, with_response};
-ghost use Rattle.flight_table.specs.Change.{changed};
+ghost use Rattle.cycle_spec.specs.declared.entry.Entry.{Entry};
+ghost use Rattle.flight_table.specs.Change.{changed, is_release};
+ghost use Rattle.flight_table.specs.Index.{Rises};
 
 use crate::entry::is_accepted;
+use crate::search::place_of;
 use circular_buffer::HeapCircularBuffer;
 use cycle_spec::Entry;
 use inorder_machine::{StopCause, Store, Write};
@@ -25,8 +28,42 @@ pub enum Change {
     Stop(StopCause),
 }
 
-/// Changes the entry of a number.
+/// Changes the entry of a number, and by a release the older ones too.
 pub(crate) fn change_all(ring: &mut HeapCircularBuffer<Entry>, seq: u64, change: Change)
+    requires { (next : ℕ) × Rises 0 ring.old.items next }
+    ensures { ring.new ≡ buffer (map (changed change seq) ring.old.items) ring.old.capacity }
+{
+    if is_release(change) {
+        change_each(ring, seq, change);
+        return;
+    }
+    let place = place_of(ring, seq);
+    if place < ring.len() {
+        change_at(ring, place, change);
+    }
+}
+
+fn is_release(change: Change) -> bool
+    ensures { result ≡ is_release change }
+{
+    match change {
+        Change::Release => true,
+        _ => false,
+    }
+}
+
+fn change_at(ring: &mut HeapCircularBuffer<Entry>, place: usize, change: Change)
+    requires { place < length ring.old.items }
+    ensures { (e : Entry) → slice_get ring.old.items place ≡ Some e
+        → ring.new ≡ buffer (set ring.old.items place (changed change e.seq e)) ring.old.capacity }
+{
+    match ring.get_mut(place) {
+        Some(entry) => change_named(entry, change),
+        None => unreachable!(),
+    }
+}
+
+fn change_each(ring: &mut HeapCircularBuffer<Entry>, seq: u64, change: Change)
     ensures { ring.new ≡ buffer (map (changed change seq) ring.old.items) ring.old.capacity }
 {
     for index in 0..ring.len() {

@@ -36,7 +36,7 @@ pub(crate) fn passes(wanted: Wanted, entry: &Entry) -> bool
     }
 }
 
-fn is_unknown(entry: &Entry) -> bool
+pub(crate) fn is_unknown(entry: &Entry) -> bool
     ensures { result ≡ flight.is_unknown entry.now }
 {
     match entry.kind {

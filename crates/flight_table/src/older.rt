@@ -1,10 +1,11 @@
 //! What entries hold back of a younger one.
-ghost use Rattle.std.specs.Prelude.{◌≡◌, ◌≢◌, ◌<◌, ◌++◌, ◌∷◌, [], ℕ, Bool, List, Some, not, slice_get, if◌then◌else◌};
+ghost use Rattle.std.specs.Prelude.{◌≡◌, ◌≢◌, ◌<◌, ◌+◌, ◌++◌, ◌∷◌, [], ℕ, Bool, List, Some, min, not, slice_get, if◌then◌else◌};
 ghost use Rattle.cycle_spec.specs.declared.entry.Entry.{Entry};
 ghost use Rattle.cycle_spec.specs.Flight.{may_write};
+ghost use Rattle.flight_table.specs.Index.{first_target};
 ghost use Rattle.flight_table.specs.Older.{IsOlder};
 
-use crate::entry::{is_pending, is_store, may_write};
+use crate::entry::{is_pending, is_store, is_unknown, may_write};
 use crate::writers::first_target;
 use cycle_spec::Entry;
 
@@ -52,7 +53,21 @@ fn note_wait(waits: &mut [bool; 32], dual_write: bool, entry: &Entry)
 {
     let first = first_target(entry);
     note_one(waits, dual_write, entry, first);
-    note_one(waits, dual_write, entry, first.saturating_add(1));
+    note_second(waits, dual_write, entry, first.saturating_add(1));
+}
+
+/// The register behind the first: only an unknown word may write it.
+fn note_second(waits: &mut [bool; 32], dual_write: bool, entry: &Entry, register: u8)
+    requires { register ≡ min (first_target entry.now + 1) 255 }
+    ensures named { register < 32 → slice_get waits.new register
+        ≡ (if may_write dual_write register entry.now
+        then Some (not (entry.now).done)
+        else slice_get waits.old register) }
+    ensures others { (r : ℕ) → r ≢ register → slice_get waits.new r ≡ slice_get waits.old r }
+{
+    if is_unknown(entry) {
+        note_one(waits, dual_write, entry, register);
+    }
 }
 
 fn note_one(waits: &mut [bool; 32], dual_write: bool, entry: &Entry, register: u8)

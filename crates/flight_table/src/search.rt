@@ -1,5 +1,5 @@
 //! What is found among the entries of a ring, the oldest first.
-ghost use Rattle.std.specs.Prelude.{◌≡◌, ◌<◌, ◌≤◌, ◌+◌, ◌-◌, ◌^◌, ◌++◌, ◌∷◌, [], List, find, length, take, drop, slice_get, Some};
+ghost use Rattle.std.specs.Prelude.{◌≡◌, ◌<◌, ◌≤◌, ◌+◌, ◌-◌, ◌^◌, ◌++◌, ◌∷◌, [], List, find, option_copied, length, take, drop, slice_get, Some};
 ghost use Rattle.std.specs.List.{list_any};
 ghost use Rattle.cycle_spec.specs.Flight as flight;
 ghost use Rattle.flight_table.specs.Older.{IsOlder};
@@ -52,13 +52,13 @@ pub(crate) fn place_of(ring: &HeapCircularBuffer<Entry>, seq: u64) -> usize
 }
 
 /// The entry of a number.
-pub(crate) fn entry_of(ring: &HeapCircularBuffer<Entry>, seq: u64) -> Option<Entry>
-    ensures { result ≡ find (flight.has_seq seq) ring.now.items }
+pub(crate) fn entry_of(ring: &HeapCircularBuffer<Entry>, seq: u64) -> Option<&Entry>
+    ensures { option_copied result ≡ find (flight.has_seq seq) ring.now.items }
 {
     for index in 0..ring.len() {
         let entry = entry_at(ring, index);
         if entry.seq == seq {
-            return Some(*entry);
+            return Some(entry);
         }
     }
     None
@@ -70,16 +70,17 @@ pub(crate) fn youngest_writer(
     dual_write: bool,
     count: usize,
     register: u8,
-) -> Option<Entry>
+) -> Option<&Entry>
     requires { count ≤ length ring.now.items }
-    ensures { result ≡ flight.youngest_writer dual_write (take count ring.now.items) register }
+    ensures { option_copied result
+        ≡ flight.youngest_writer dual_write (take count ring.now.items) register }
 {
     let mut behind = count;
     while behind > 0 {
         behind -= 1;
         let entry = entry_at(ring, behind);
         if may_write(dual_write, register, entry) {
-            return Some(*entry);
+            return Some(entry);
         }
     }
     None
@@ -105,8 +106,8 @@ pub(crate) fn operand_behind(
 }
 
 /// A register behind the entry that writes it, or of the register file.
-pub(crate) fn operand_from(file: &Registers, writer: Option<Entry>, register: u8) -> Operand
-    ensures { result ≡ flight.operand_from file.now writer register }
+pub(crate) fn operand_from(file: &Registers, writer: Option<&Entry>, register: u8) -> Operand
+    ensures { result ≡ flight.operand_from file.now (option_copied writer.entry) register }
 {
     match writer {
         None => Operand::Here(file.value(register)),
@@ -120,8 +121,8 @@ pub(crate) fn first_among(
     ring: &HeapCircularBuffer<Entry>,
     count: usize,
     wanted: Wanted,
-) -> Option<Entry>
-    ensures { result ≡ find (passes wanted) (take count ring.now.items) }
+) -> Option<&Entry>
+    ensures { option_copied result ≡ find (passes wanted) (take count ring.now.items) }
 {
     for index in 0..ring.len() {
         if index >= count {
@@ -129,7 +130,7 @@ pub(crate) fn first_among(
         }
         let entry = entry_within(ring, count, index);
         if passes(wanted, entry) {
-            return Some(*entry);
+            return Some(entry);
         }
     }
     None
@@ -140,13 +141,13 @@ pub(crate) fn first_behind(
     ring: &HeapCircularBuffer<Entry>,
     count: usize,
     wanted: Wanted,
-) -> Option<Entry>
-    ensures { result ≡ find (passes wanted) (drop count ring.now.items) }
+) -> Option<&Entry>
+    ensures { option_copied result ≡ find (passes wanted) (drop count ring.now.items) }
 {
     for index in count..ring.len() {
         let entry = entry_at(ring, index);
         if passes(wanted, entry) {
-            return Some(*entry);
+            return Some(entry);
         }
     }
     None
@@ -165,13 +166,14 @@ pub(crate) fn is_any_stopping(ring: &HeapCircularBuffer<Entry>) -> bool
 }
 
 /// The oldest of the `count` oldest entries that may execute.
-pub(crate) fn ready_among(
-    ring: &HeapCircularBuffer<Entry>,
+pub(crate) fn ready_among<'a>(
+    ring: &'a HeapCircularBuffer<Entry>,
     file: &Registers,
     dual_write: bool,
     count: usize,
-) -> Option<Entry>
-    ensures { result ≡ flight.ready_oldest dual_write file.now (take count ring.now.items) }
+) -> Option<&'a Entry>
+    ensures { option_copied result
+        ≡ flight.ready_oldest dual_write file.now (take count ring.now.items) }
 {
     let mut older = Older::none();
     for index in 0..ring.len() {
@@ -180,7 +182,7 @@ pub(crate) fn ready_among(
         }
         let entry = entry_within(ring, count, index);
         if may_execute(ring, file, dual_write, index, entry, &older) {
-            return Some(*entry);
+            return Some(entry);
         }
         older.note(dual_write, entry);
     }
@@ -272,14 +274,14 @@ fn is_here(operand: Operand) -> bool
 }
 
 /// The youngest use that may be released.
-pub(crate) fn certain(ring: &HeapCircularBuffer<Entry>) -> Option<Entry>
-    ensures { result ≡ flight.certain ring.now.items }
+pub(crate) fn certain(ring: &HeapCircularBuffer<Entry>) -> Option<&Entry>
+    ensures { option_copied result ≡ flight.certain ring.now.items }
 {
     let mut youngest = None;
     for index in 0..ring.len() {
         let entry = entry_at(ring, index);
         if is_undecided(entry) {
-            youngest = Some(*entry);
+            youngest = Some(entry);
         }
         if !is_safe(entry) {
             return youngest;
@@ -289,14 +291,14 @@ pub(crate) fn certain(ring: &HeapCircularBuffer<Entry>) -> Option<Entry>
 }
 
 /// The youngest released use.
-pub(crate) fn youngest_released(ring: &HeapCircularBuffer<Entry>) -> Option<Entry>
-    ensures { result ≡ flight.youngest_released ring.now.items }
+pub(crate) fn youngest_released(ring: &HeapCircularBuffer<Entry>) -> Option<&Entry>
+    ensures { option_copied result ≡ flight.youngest_released ring.now.items }
 {
     let mut youngest = None;
     for index in 0..ring.len() {
         let entry = entry_at(ring, index);
         if entry.released {
-            youngest = Some(*entry);
+            youngest = Some(entry);
         }
     }
     youngest
@@ -328,13 +330,13 @@ fn is_held(ring: &HeapCircularBuffer<Entry>, id: u16) -> bool
 }
 
 /// The oldest unknown word that holds an id.
-pub(crate) fn holder_of(ring: &HeapCircularBuffer<Entry>, id: u16) -> Option<Entry>
-    ensures { result ≡ find (flight.holds_id id) ring.now.items }
+pub(crate) fn holder_of(ring: &HeapCircularBuffer<Entry>, id: u16) -> Option<&Entry>
+    ensures { option_copied result ≡ find (flight.holds_id id) ring.now.items }
 {
     for index in 0..ring.len() {
         let entry = entry_at(ring, index);
         if holds_id(entry, id) {
-            return Some(*entry);
+            return Some(entry);
         }
     }
     None

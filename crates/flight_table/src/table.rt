@@ -1,5 +1,5 @@
 //! The table of the instructions in flight.
-ghost use Rattle.std.specs.Prelude.{◌≡◌, ◌<◌, ◌≤◌, ◌+◌, ◌^◌, ◌++◌, ◌∷◌, [], ℕ, length, take, drop, find, map, IfOk, slice_get, Some, None, true};
+ghost use Rattle.std.specs.Prelude.{◌≡◌, ◌<◌, ◌≤◌, ◌+◌, ◌^◌, ◌++◌, ◌∷◌, [], ℕ, length, take, drop, find, map, option_copied, IfOk, slice_get, Some, None, true};
 ghost use Rattle.std.specs.Option.{option_map};
 ghost use Rattle.std.specs.List.{list_any};
 ghost use Rattle.circular_buffer.specs.Buffer.{buffer};
@@ -104,15 +104,15 @@ impl FlightTable {
     }
 
     /// The first of the `count` oldest entries that is as wanted.
-    pub fn first_among(&self, count: u8, wanted: Wanted) -> Option<Entry>
-        ensures { result ≡ find (passes wanted) (take count self.now.entries) }
+    pub fn first_among(&self, count: u8, wanted: Wanted) -> Option<&Entry>
+        ensures { option_copied result ≡ find (passes wanted) (take count self.now.entries) }
     {
         first_among(&self.ring, usize::from(count), wanted)
     }
 
     /// The first entry behind the `count` oldest ones that is as wanted.
-    pub fn first_behind(&self, count: u8, wanted: Wanted) -> Option<Entry>
-        ensures { result ≡ find (passes wanted) (drop count self.now.entries) }
+    pub fn first_behind(&self, count: u8, wanted: Wanted) -> Option<&Entry>
+        ensures { option_copied result ≡ find (passes wanted) (drop count self.now.entries) }
     {
         first_behind(&self.ring, usize::from(count), wanted)
     }
@@ -206,8 +206,8 @@ impl FlightTable {
     }
 
     /// The oldest of the `count` oldest entries that may execute.
-    pub fn ready_among(&self, count: u8, file: &Registers) -> Option<Entry>
-        ensures { result ≡ flight.ready_oldest
+    pub fn ready_among(&self, count: u8, file: &Registers) -> Option<&Entry>
+        ensures { option_copied result ≡ flight.ready_oldest
             self.now.dual_write file.now (take count self.now.entries) }
     {
         ready_among(&self.ring, file, self.dual_write, usize::from(count))
@@ -237,7 +237,7 @@ impl FlightTable {
           entries = map (flight.with_response seq response) self.old.entries;
         } }
     {
-        let answered = entry_of(&self.ring, seq);
+        let answered = entry_of(&self.ring, seq).copied();
         change_all(&mut self.ring, seq, Change::Response(response));
         let Some(entry) = answered else {
             return;
@@ -280,15 +280,15 @@ impl FlightTable {
     }
 
     /// The youngest use that may be released, as it is.
-    pub fn certain(&self) -> Option<Entry>
-        ensures { result ≡ flight.certain self.now.entries }
+    pub fn certain(&self) -> Option<&Entry>
+        ensures { option_copied result ≡ flight.certain self.now.entries }
     {
         certain(&self.ring)
     }
 
     /// The youngest released use.
-    pub fn youngest_released(&self) -> Option<Entry>
-        ensures { result ≡ flight.youngest_released self.now.entries }
+    pub fn youngest_released(&self) -> Option<&Entry>
+        ensures { option_copied result ≡ flight.youngest_released self.now.entries }
     {
         youngest_released(&self.ring)
     }
@@ -331,7 +331,7 @@ impl FlightTable {
     {
         match self.ring.pop_front() {
             Some(entry) => {
-                forget(&mut self.writers, entry.seq);
+                forget(&mut self.writers, &entry);
                 entry
             }
             None => unreachable!(),
@@ -346,16 +346,16 @@ impl FlightTable {
     }
 
     /// The unknown word that holds an id, the oldest if there are more.
-    pub fn holder_of(&self, id: u16) -> Option<Entry>
-        ensures { result ≡ find (flight.holds_id id) self.now.entries }
+    pub fn holder_of(&self, id: u16) -> Option<&Entry>
+        ensures { option_copied result ≡ find (flight.holds_id id) self.now.entries }
     {
         holder_of(&self.ring, id)
     }
 
     /// The youngest entry that is older than the one of a number and may write a register. By the
     /// index, where the youngest of all is older.
-    fn older_writer(&self, seq: u64, register: u8) -> Option<Entry>
-        ensures { result ≡ flight.youngest_writer self.now.dual_write
+    fn older_writer(&self, seq: u64, register: u8) -> Option<&Entry>
+        ensures { option_copied result ≡ flight.youngest_writer self.now.dual_write
             (flight.older_than seq self.now.entries) register }
     {
         // The index has x0 to x31.
@@ -370,8 +370,8 @@ impl FlightTable {
     }
 
     /// The same, looking back from the entry of the number.
-    fn writer_before(&self, seq: u64, register: u8) -> Option<Entry>
-        ensures { result ≡ flight.youngest_writer self.now.dual_write
+    fn writer_before(&self, seq: u64, register: u8) -> Option<&Entry>
+        ensures { option_copied result ≡ flight.youngest_writer self.now.dual_write
             (flight.older_than seq self.now.entries) register }
     {
         let older = place_of(&self.ring, seq);
@@ -389,10 +389,13 @@ impl FlightTable {
     }
 }
 
-fn seq_of(entry: Option<Entry>) -> Option<u64>
-    ensures { result ≡ option_map (λ e. e.seq) entry }
+fn seq_of(entry: Option<&Entry>) -> Option<u64>
+    ensures { result ≡ option_map (λ e. e.seq) (option_copied entry.entry) }
 {
-    entry.map(|entry| entry.seq)
+    match entry {
+        Some(entry) => Some(entry.seq),
+        None => None,
+    }
 }
 
 /// Adds an entry where there is room.

@@ -1,5 +1,6 @@
 //! The rename index: of each register, the number of the youngest entry that may write it.
-ghost use Rattle.std.specs.Prelude.{◌≡◌, ◌≢◌, ◌<◌, ◌≤◌, ◌+◌, ◌⊎◌, ℕ, Option, Some, None, map, nat_lt, slice_get, if◌then◌else◌};
+ghost use Rattle.std.specs.Prelude.{◌≡◌, ◌≢◌, ◌<◌, ◌≤◌, ◌+◌, ◌⊎◌, ℕ, Bool, false, Option, Some, None, nat_lt, slice_get, if◌then◌else◌};
+ghost use Rattle.std.specs.Option.{option_map};
 ghost use Rattle.cycle_spec.specs.Flight.{may_write};
 ghost use Rattle.flight_table.specs.Table.{writer_of};
 ghost use Rattle.flight_table.specs.Index.{first_target, forgotten};
@@ -37,12 +38,28 @@ fn note_one(writers: &mut Writers, dual_write: bool, entry: &Entry, register: u8
     }
 }
 
-/// The oldest entry, which has this number, is gone: where it was the youngest there is none.
-pub(crate) fn forget(writers: &mut Writers, seq: u64)
-    ensures { writers.new ≡ map (forgotten seq) writers.old }
+/// The oldest entry is gone: where it was the youngest there is none.
+pub(crate) fn forget(writers: &mut Writers, entry: &Entry)
+    ensures { (dual_write : Bool) → (r : ℕ) → r < 32
+        → (slice_get writers.new r
+        ≡ option_map (forgotten (entry.now).seq) (slice_get writers.old r))
+        ⊎ ((slice_get writers.new r ≡ slice_get writers.old r)
+        × (may_write dual_write r entry.now ≡ false)) }
 {
-    for writer in writers.iter_mut() {
-        *writer = forgotten(*writer, seq);
+    let first = first_target(entry);
+    forget_one(writers, entry.seq, first);
+    forget_one(writers, entry.seq, first.saturating_add(1));
+}
+
+fn forget_one(writers: &mut Writers, seq: u64, register: u8)
+    ensures named { register < 32 → slice_get writers.new register
+        ≡ option_map (forgotten seq) (slice_get writers.old register) }
+    ensures others { (r : ℕ) → r ≢ register
+        → slice_get writers.new r ≡ slice_get writers.old r }
+{
+    if register < 32 {
+        let place = usize::from(register);
+        writers[place] = forgotten(writers[place], seq);
     }
 }
 
@@ -114,7 +131,10 @@ fn is_younger(writer: Option<u64>, seq: u64) -> bool
 fn writer_of(ring: &HeapCircularBuffer<Entry>, dual_write: bool, register: u8) -> Option<u64>
     ensures { result ≡ writer_of dual_write ring.now.items register }
 {
-    youngest_writer(ring, dual_write, ring.len(), register).map(|entry| entry.seq)
+    match youngest_writer(ring, dual_write, ring.len(), register) {
+        Some(entry) => Some(entry.seq),
+        None => None,
+    }
 }
 
 /// The first register that an entry may write. If it may write another, that is the one behind it.

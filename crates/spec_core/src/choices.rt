@@ -1,5 +1,5 @@
 //! What the core does in a cycle, chosen from the state at its start.
-ghost use Rattle.std.specs.Prelude.{◌≡◌, if◌then◌else◌, is_some, None};
+ghost use Rattle.std.specs.Prelude.{◌≡◌, if◌then◌else◌, is_some, None, option_copied};
 ghost use Rattle.cycle_spec.specs.Choices as spec;
 ghost use Rattle.cycle_spec.specs.Flight.{youngest_released};
 ghost use Rattle.spec_core.specs.Drives.{FitsPresent, AreChosen};
@@ -71,7 +71,7 @@ impl CoreState {
     {
         Choices {
             stop: Some(cause),
-            kill: self.table.first_behind(0, Wanted::Pending),
+            kill: self.table.first_behind(0, Wanted::Pending).copied(),
             ..NO_CHOICES
         }
     }
@@ -83,44 +83,38 @@ impl CoreState {
     {
         let retire = retirement_among(&self.table, self.table.len());
         let hit = store_cut(&self.table, retire);
-        let execute = self.execution_unless(hit);
-        let cut = either_cut(hit, self.control_cut(execute));
-        self.choose_with(retire, execute, cut, choices);
+        self.put_execution_unless(hit, &mut choices.execute);
+        let cut = either_cut(hit, self.control_cut(&choices.execute));
+        self.choose_with(retire, cut, choices);
     }
 
-    /// Field by field, so that the choices are not copied.
-    fn choose_with(
-        &self,
-        retire: Option<Entry>,
-        execute: Option<Executed>,
-        cut: Option<Cut>,
-        choices: &mut Choices,
-    )
-        ensures value { choices.new ≡ spec.choices_with self.now retire execute cut }
+    /// What is done beside what executes: each in its place, so that no entry is copied twice.
+    fn choose_with(&self, retire: Option<&Entry>, cut: Option<Cut>, choices: &mut Choices)
+        ensures value { choices.new
+            ≡ spec.choices_with self.now (option_copied retire.entry) (choices.old).execute cut }
         ensures fits { FitsPresent self.now.params choices.new }
     {
         let offer = self.table.first_behind(0, Wanted::Open);
         choices.stop = None;
-        choices.retire = retire;
-        choices.execute = execute;
+        put(&mut choices.retire, retire);
         choices.cut = cut;
         choices.drain = None;
-        choices.offer = offer;
-        choices.present = self.present_in(offer, self.table.len());
-        choices.kill = kill_among(&self.table, cut, offer);
-        choices.release = release_in(&self.table, cut);
+        put(&mut choices.offer, offer);
+        self.put_present(offer, self.table.len(), &mut choices.present);
+        put(&mut choices.kill, kill_among(&self.table, cut, offer));
+        put(&mut choices.release, release_in(&self.table, cut));
         choices.dispatch = self.may_dispatch(cut);
     }
 
     /// Nothing executes where a store cuts.
-    fn execution_unless(&self, hit: Option<Cut>) -> Option<Executed>
-        ensures { result ≡ (if is_some hit
+    fn put_execution_unless(&self, hit: Option<Cut>, execute: &mut Option<Executed>)
+        ensures { execute.new ≡ (if is_some hit
             then None
             else spec.execution self.now self.now.flight) }
     {
         match hit {
-            Some(_) => None,
-            None => self.execution(self.table.len()),
+            Some(_) => *execute = None,
+            None => self.put_execution(self.table.len(), execute),
         }
     }
 
@@ -128,7 +122,7 @@ impl CoreState {
     fn may_dispatch(&self, cut: Option<Cut>) -> bool
         ensures { result ≡ spec.may_dispatch self.now cut }
     {
-        self.table.len() < self.window && !self.table.is_any_stopping() && cut.is_none()
+        self.table.len() < self.window && cut.is_none() && !self.table.is_any_stopping()
     }
 
     /// In a drain only the oldest entries, those that stay, retire, execute and are presented.
@@ -137,7 +131,7 @@ impl CoreState {
         ensures fits { FitsPresent self.now.params result }
     {
         Choices {
-            retire: retirement_among(&self.table, stay),
+            retire: retirement_among(&self.table, stay).copied(),
             execute: self.execution(stay),
             present: self.present_in(None, stay),
             ..NO_CHOICES
@@ -152,9 +146,19 @@ impl CoreState {
     {
         Choices {
             drain: Some(stay),
-            kill: self.table.first_behind(stay, Wanted::Pending),
+            kill: self.table.first_behind(stay, Wanted::Pending).copied(),
             ..self.choices_draining(stay)
         }
+    }
+}
+
+/// Copies an entry to its place, if there is one.
+fn put(place: &mut Option<Entry>, found: Option<&Entry>)
+    ensures { place.new ≡ option_copied found.entry }
+{
+    match found {
+        Some(entry) => *place = Some(*entry),
+        None => *place = None,
     }
 }
 

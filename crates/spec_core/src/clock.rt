@@ -39,20 +39,20 @@ impl CoreState {
     {
         let id = free_id_if(&self.table, choices.dispatch);
         settle(&mut self.table, choices, bus);
-        write_back(&mut self.registers, choices.retire);
-        store_back(&mut self.memory, choices.retire);
+        write_back(&mut self.registers, &choices.retire);
+        store_back(&mut self.memory, &choices.retire);
         let ahead = ahead_behind(choices.cut, self.ahead);
         let seq = self.table.next_seq();
         let new = entry_if(choices.dispatch, seq, id, ahead, &self.memory, predictor);
         add(&mut self.table, new);
-        learn(predictor, choices.retire);
-        self.pc = pc_behind(choices.retire, self.pc);
-        self.ahead = ahead_after(new, ahead);
+        learn(predictor, &choices.retire);
+        self.pc = pc_behind(&choices.retire, self.pc);
+        self.ahead = ahead_after(&new, ahead);
         self.stopped = stop_or(choices.stop, self.stopped);
         self.mode = mode_after(self.mode);
         self.register_turns = transactions_after(
             self.register_turns,
-            present_owner(choices.present),
+            present_owner(&choices.present),
             bus.register_ready,
         );
         self.result_turns = transactions_after(
@@ -61,9 +61,9 @@ impl CoreState {
             bus.result_ready,
         );
         CycleLog {
-            retired: retired_line(choices.retire),
+            retired: retired_line(&choices.retire),
             cut: choices.cut,
-            dispatched: dispatch_line(new),
+            dispatched: dispatch_line(&new),
             drained: choices.drain,
             stopped: choices.stop,
             pc: self.pc,
@@ -89,8 +89,8 @@ fn mode_after(mode: Mode) -> Mode
     }
 }
 
-fn present_owner(present: Option<Presented>) -> Option<u64>
-    ensures { result ≡ spec.present_owner present }
+fn present_owner(present: &Option<Presented>) -> Option<u64>
+    ensures { result ≡ spec.present_owner present.now }
 {
     match present {
         Some(presented) => Some(presented.entry.seq),

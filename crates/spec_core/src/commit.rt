@@ -1,5 +1,5 @@
 //! What the commit interface names in a cycle (CV-X-IF 1.0.0, "Commit interface").
-ghost use Rattle.std.specs.Prelude.{◌≡◌, drop};
+ghost use Rattle.std.specs.Prelude.{◌≡◌, option_copied, drop};
 ghost use Rattle.std.specs.Option.{option_and_then};
 ghost use Rattle.cycle_spec.specs.Choices as spec;
 
@@ -8,8 +8,13 @@ use flight_table::{FlightTable, Wanted};
 
 /// The word that a kill names where a cut drops entries: the oldest undecided use that had its
 /// issue handshake, and without one the word on the issue interface, if it goes.
-pub fn kill_among(table: &FlightTable, cut: Option<Cut>, offer: Option<Entry>) -> Option<Entry>
-    ensures { result ≡ spec.kill_among (spec.gone_by cut table.now.entries) offer }
+pub fn kill_among<'a>(
+    table: &'a FlightTable,
+    cut: Option<Cut>,
+    offer: Option<&Entry>,
+) -> Option<&'a Entry>
+    ensures { option_copied result
+        ≡ spec.kill_among (spec.gone_by cut table.now.entries) (option_copied offer.entry) }
 {
     match cut {
         None => None,
@@ -17,8 +22,9 @@ pub fn kill_among(table: &FlightTable, cut: Option<Cut>, offer: Option<Entry>) -
     }
 }
 
-fn kill_behind(table: &FlightTable, keep: u8, offer: Option<Entry>) -> Option<Entry>
-    ensures { result ≡ spec.kill_among (drop keep table.now.entries) offer }
+fn kill_behind<'a>(table: &'a FlightTable, keep: u8, offer: Option<&Entry>) -> Option<&'a Entry>
+    ensures { option_copied result
+        ≡ spec.kill_among (drop keep table.now.entries) (option_copied offer.entry) }
 {
     match table.first_behind(keep, Wanted::Pending) {
         Some(entry) => Some(entry),
@@ -27,8 +33,9 @@ fn kill_behind(table: &FlightTable, keep: u8, offer: Option<Entry>) -> Option<En
 }
 
 /// The word on the issue interface, if it goes.
-fn among_behind(table: &FlightTable, keep: u8, offer: Option<Entry>) -> Option<Entry>
-    ensures { result ≡ option_and_then (spec.among (drop keep table.now.entries)) offer }
+fn among_behind<'a>(table: &'a FlightTable, keep: u8, offer: Option<&Entry>) -> Option<&'a Entry>
+    ensures { option_copied result
+        ≡ option_and_then (spec.among (drop keep table.now.entries)) (option_copied offer.entry) }
 {
     match offer {
         None => None,
@@ -37,8 +44,8 @@ fn among_behind(table: &FlightTable, keep: u8, offer: Option<Entry>) -> Option<E
 }
 
 /// The word that a release names, where nothing is cut.
-pub fn release_in(table: &FlightTable, cut: Option<Cut>) -> Option<Entry>
-    ensures { result ≡ spec.release_in cut table.now.entries }
+pub fn release_in(table: &FlightTable, cut: Option<Cut>) -> Option<&Entry>
+    ensures { option_copied result ≡ spec.release_in cut table.now.entries }
 {
     match cut {
         None => table.certain(),

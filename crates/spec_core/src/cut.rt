@@ -1,5 +1,5 @@
 //! What drops the younger entries in a cycle.
-ghost use Rattle.std.specs.Prelude.{◌≡◌, ◌<◌, ◌^◌, drop};
+ghost use Rattle.std.specs.Prelude.{◌≡◌, ◌<◌, ◌^◌, option_copied, drop};
 ghost use Rattle.std.specs.Option.{option_or};
 ghost use Rattle.std.specs.List.{list_any};
 ghost use Rattle.cycle_spec.specs.Choices as spec;
@@ -15,8 +15,8 @@ const ADDRESSES: u64 = 1 << 32;
 
 /// The entry that retires stores into the word of a younger one. What is younger is dropped, and is
 /// dispatched anew.
-pub fn store_cut(table: &FlightTable, retire: Option<Entry>) -> Option<Cut>
-    ensures { result ≡ spec.store_cut retire (drop 1 table.now.entries) }
+pub fn store_cut(table: &FlightTable, retire: Option<&Entry>) -> Option<Cut>
+    ensures { result ≡ spec.store_cut (option_copied retire.entry) (drop 1 table.now.entries) }
 {
     match retire {
         None => None,
@@ -75,8 +75,8 @@ fn is_in_word(pc: u32, address: u64) -> bool
 impl CoreState {
     /// The control transfer that executes goes elsewhere than was predicted. What is younger is
     /// dropped.
-    pub(crate) fn control_cut(&self, execute: Option<Executed>) -> Option<Cut>
-        ensures { result ≡ spec.control_cut execute self.now.flight }
+    pub(crate) fn control_cut(&self, execute: &Option<Executed>) -> Option<Cut>
+        ensures { result ≡ spec.control_cut execute.now self.now.flight }
     {
         match execute {
             None => None,

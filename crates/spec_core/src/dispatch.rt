@@ -108,8 +108,8 @@ pub(crate) fn add(table: &mut FlightTable, new: Option<Entry>)
 }
 
 /// The address of the next dispatch after one.
-pub(crate) fn ahead_after(new: Option<Entry>, ahead: u32) -> u32
-    ensures { result ≡ spec.ahead_after new ahead }
+pub(crate) fn ahead_after(new: &Option<Entry>, ahead: u32) -> u32
+    ensures { result ≡ spec.ahead_after new.now ahead }
 {
     match new {
         Some(entry) => entry.predicted,
@@ -118,10 +118,10 @@ pub(crate) fn ahead_after(new: Option<Entry>, ahead: u32) -> u32
 }
 
 /// The line of the instruction that is dispatched.
-pub(crate) fn dispatch_line(new: Option<Entry>) -> Option<Dispatch>
-    ensures { result ≡ option_map spec.dispatch_line new }
+pub(crate) fn dispatch_line(new: &Option<Entry>) -> Option<Dispatch>
+    ensures { result ≡ option_map spec.dispatch_line new.now }
 {
-    let entry = new?;
+    let entry = new.as_ref()?;
     Some(Dispatch {
         pc: entry.pc,
         word: word_of(entry.kind, entry.word),

@@ -1,5 +1,5 @@
 //! What the core drives in a cycle.
-ghost use Rattle.std.specs.Prelude.{◌≡◌, ◌<◌, ◌^◌};
+ghost use Rattle.std.specs.Prelude.{◌≡◌, ◌<◌, ◌^◌, option_copied};
 ghost use Rattle.std.specs.Option.{option_or};
 ghost use Rattle.cycle_spec.specs.Core as spec;
 
@@ -32,15 +32,15 @@ pub fn cpu_out(choices: &Choices) -> CpuOut
     CpuOut {
         issue_valid: choices.offer.is_some(),
         issue_hartid: 0,
-        issue_id: id_in(choices.offer),
-        issue_instr: word_in(choices.offer),
+        issue_id: id_in(choices.offer.as_ref()),
+        issue_instr: word_in(choices.offer.as_ref()),
         register_valid: choices.present.is_some(),
         register_hartid: 0,
-        register_id: presented_id(choices.present),
-        register_rs0: presented_lane(0, choices.present),
-        register_rs1: presented_lane(1, choices.present),
-        register_rs2: presented_lane(2, choices.present),
-        register_rs_valid: presented_flags(choices.present),
+        register_id: presented_id(&choices.present),
+        register_rs0: presented_lane(0, &choices.present),
+        register_rs1: presented_lane(1, &choices.present),
+        register_rs2: presented_lane(2, &choices.present),
+        register_rs_valid: presented_flags(&choices.present),
         commit_valid: choices.kill.is_some() || choices.release.is_some(),
         commit_hartid: 0,
         commit_id: id_in(named),
@@ -49,17 +49,17 @@ pub fn cpu_out(choices: &Choices) -> CpuOut
 }
 
 /// The word that the commit interface names: at most one of a kill and a release is chosen.
-fn named_by_commit(choices: &Choices) -> Option<Entry>
-    ensures { result ≡ option_or (choices.now).kill (choices.now).release }
+fn named_by_commit(choices: &Choices) -> Option<&Entry>
+    ensures { option_copied result ≡ option_or (choices.now).kill (choices.now).release }
 {
-    match choices.kill {
+    match &choices.kill {
         Some(entry) => Some(entry),
-        None => choices.release,
+        None => choices.release.as_ref(),
     }
 }
 
-fn id_in(entry: Option<Entry>) -> u16
-    ensures { result ≡ spec.id_in entry }
+fn id_in(entry: Option<&Entry>) -> u16
+    ensures { result ≡ spec.id_in (option_copied entry.entry) }
 {
     match entry {
         Some(entry) => entry.id,
@@ -67,8 +67,8 @@ fn id_in(entry: Option<Entry>) -> u16
     }
 }
 
-fn word_in(entry: Option<Entry>) -> u32
-    ensures { result ≡ spec.word_in entry }
+fn word_in(entry: Option<&Entry>) -> u32
+    ensures { result ≡ spec.word_in (option_copied entry.entry) }
 {
     match entry {
         Some(entry) => entry.word,
@@ -76,8 +76,8 @@ fn word_in(entry: Option<Entry>) -> u32
     }
 }
 
-fn presented_id(present: Option<Presented>) -> u16
-    ensures { result ≡ spec.presented_id present }
+fn presented_id(present: &Option<Presented>) -> u16
+    ensures { result ≡ spec.presented_id present.now }
 {
     match present {
         Some(presented) => presented.entry.id,
@@ -85,9 +85,9 @@ fn presented_id(present: Option<Presented>) -> u16
     }
 }
 
-fn presented_lane(lane: usize, present: Option<Presented>) -> u64
+fn presented_lane(lane: usize, present: &Option<Presented>) -> u64
     requires { lane < 3 }
-    ensures { result ≡ spec.presented_lane lane present }
+    ensures { result ≡ spec.presented_lane lane present.now }
 {
     match present {
         Some(presented) => presented.lanes[lane],
@@ -95,8 +95,8 @@ fn presented_lane(lane: usize, present: Option<Presented>) -> u64
     }
 }
 
-fn presented_flags(present: Option<Presented>) -> u8
-    ensures { result ≡ spec.presented_flags present }
+fn presented_flags(present: &Option<Presented>) -> u8
+    ensures { result ≡ spec.presented_flags present.now }
 {
     match present {
         Some(presented) => presented.rs_valid,

@@ -13,22 +13,33 @@ impl CoreState {
     pub(crate) fn execution(&self, count: u8) -> Option<Executed>
         ensures { result ≡ spec.execution self.now (take count self.now.flight) }
     {
+        let mut execute = None;
+        self.put_execution(count, &mut execute);
+        execute
+    }
+
+    /// The same, in its place, so that it is not copied.
+    pub(crate) fn put_execution(&self, count: u8, execute: &mut Option<Executed>)
+        ensures { execute.new ≡ spec.execution self.now (take count self.now.flight) }
+    {
         match self.table.ready_among(count, &self.registers) {
-            None => None,
-            Some(entry) => self.executed_entry(&entry),
+            None => *execute = None,
+            Some(entry) => self.put_executed(entry, execute),
         }
     }
 
     /// What an entry does, on the registers behind the older ones and on the memory.
-    fn executed_entry(&self, entry: &Entry) -> Option<Executed>
-        ensures { result ≡ spec.executed_entry self.now entry.now }
+    fn put_executed(&self, entry: &Entry, execute: &mut Option<Executed>)
+        ensures { execute.new ≡ spec.executed_entry self.now entry.now }
     {
         match entry.kind {
-            EntryKind::Local(instr) => Some(Executed {
-                entry: *entry,
-                outcome: self.outcome_of(entry, &instr),
-            }),
-            EntryKind::Unknown | EntryKind::Nowhere => None,
+            EntryKind::Local(instr) => {
+                *execute = Some(Executed {
+                    entry: *entry,
+                    outcome: self.outcome_of(entry, &instr),
+                });
+            }
+            EntryKind::Unknown | EntryKind::Nowhere => *execute = None,
         }
     }
 

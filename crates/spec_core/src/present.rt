@@ -1,5 +1,5 @@
 //! What the register interface carries in a cycle (CV-X-IF 1.0.0, "Register interface").
-ghost use Rattle.std.specs.Prelude.{◌≡◌, ◌<◌, ◌≤◌, ◌+◌, ◌^◌, take, if◌then◌else◌, true, IfSome};
+ghost use Rattle.std.specs.Prelude.{◌≡◌, ◌<◌, ◌≤◌, ◌+◌, ◌^◌, take, if◌then◌else◌, true, IfSome, option_copied};
 ghost use Rattle.xif_base.specs.Params.{IsInRange};
 ghost use Rattle.coproc_config.specs.Accept.{flag_of};
 ghost use Rattle.coproc_config.specs.Bits.{lane as lane_with};
@@ -19,21 +19,38 @@ use xif_base::{Params, ReadFlags};
 impl CoreState {
     /// What the register interface carries, with this word on the issue interface, and for one of
     /// the `count` oldest entries.
-    pub(crate) fn present_in(&self, offer: Option<Entry>, count: u8) -> Option<Presented>
-        ensures value { result ≡ spec.present_in self.now offer (take count self.now.flight) }
+    pub(crate) fn present_in(&self, offer: Option<&Entry>, count: u8) -> Option<Presented>
+        ensures value { result ≡ spec.present_in self.now (option_copied offer.entry)
+            (take count self.now.flight) }
         ensures fits { IfSome result (FitsPresented self.now.params) }
     {
+        let mut present = None;
+        self.put_present(offer, count, &mut present);
+        present
+    }
+
+    /// The same, in its place, so that it is not copied.
+    pub(crate) fn put_present(
+        &self,
+        offer: Option<&Entry>,
+        count: u8,
+        present: &mut Option<Presented>,
+    )
+        ensures value { present.new ≡ spec.present_in self.now (option_copied offer.entry)
+            (take count self.now.flight) }
+        ensures fits { IfSome present.new (FitsPresented self.now.params) }
+    {
         match self.presented_entry(offer, count) {
-            None => None,
-            Some(entry) => Some(self.presentation_of(&entry)),
+            None => *present = None,
+            Some(entry) => *present = Some(self.presentation_of(entry)),
         }
     }
 
     /// With X_ISSUE_REGISTER_SPLIT the oldest use that waits for its registers, and else the word
     /// on the issue interface.
-    fn presented_entry(&self, offer: Option<Entry>, count: u8) -> Option<Entry>
-        ensures { result ≡ spec.presented_entry self.now.params.split offer
-            (take count self.now.flight) }
+    fn presented_entry<'a>(&'a self, offer: Option<&'a Entry>, count: u8) -> Option<&'a Entry>
+        ensures { option_copied result ≡ spec.presented_entry self.now.params.split
+            (option_copied offer.entry) (take count self.now.flight) }
     {
         if self.params.split {
             self.table.first_among(count, Wanted::Waiting)

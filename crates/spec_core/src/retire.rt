@@ -14,9 +14,9 @@ use xif_drive::Predictor;
 use xif_image::Memory;
 
 /// The registers behind the instruction that retires.
-pub(crate) fn write_back(registers: &mut Registers, retire: Option<Entry>)
-    requires { IfSome retire (λ e. IsKeptWrite e.write) }
-    ensures { registers.new ≡ spec.registers_behind retire registers.old }
+pub(crate) fn write_back(registers: &mut Registers, retire: &Option<Entry>)
+    requires { IfSome retire.now (λ e. IsKeptWrite e.write) }
+    ensures { registers.new ≡ spec.registers_behind retire.now registers.old }
 {
     if let Some(entry) = retire {
         write(registers, entry.write);
@@ -38,9 +38,9 @@ fn write(registers: &mut Registers, write: Write)
 }
 
 /// The memory behind the instruction that retires.
-pub(crate) fn store_back(memory: &mut Memory, retire: Option<Entry>)
-    requires { IfSome retire (λ e. IsStore memory.old e.store) }
-    ensures { memory.new ≡ spec.memory_behind retire memory.old }
+pub(crate) fn store_back(memory: &mut Memory, retire: &Option<Entry>)
+    requires { IfSome retire.now (λ e. IsStore memory.old e.store) }
+    ensures { memory.new ≡ spec.memory_behind retire.now memory.old }
 {
     if let Some(entry) = retire {
         store(memory, entry.store);
@@ -58,8 +58,8 @@ fn store(memory: &mut Memory, store: Option<Store>)
 }
 
 /// The address of the next instruction to retire.
-pub(crate) fn pc_behind(retire: Option<Entry>, pc: u32) -> u32
-    ensures { result ≡ spec.pc_behind retire pc }
+pub(crate) fn pc_behind(retire: &Option<Entry>, pc: u32) -> u32
+    ensures { result ≡ spec.pc_behind retire.now pc }
 {
     match retire {
         Some(entry) => entry.next,
@@ -68,8 +68,8 @@ pub(crate) fn pc_behind(retire: Option<Entry>, pc: u32) -> u32
 }
 
 /// A predictor learns where a control transfer went that retires.
-pub(crate) fn learn<P: Predictor>(predictor: &mut P, retire: Option<Entry>)
-    ensures { predictor.new ≡ spec.learnt P.after retire predictor.old }
+pub(crate) fn learn<P: Predictor>(predictor: &mut P, retire: &Option<Entry>)
+    ensures { predictor.new ≡ spec.learnt P.after retire.now predictor.old }
 {
     if let Some(entry) = retire {
         if is_control(entry.kind) {
@@ -79,10 +79,10 @@ pub(crate) fn learn<P: Predictor>(predictor: &mut P, retire: Option<Entry>)
 }
 
 /// The line of the instruction that retires.
-pub(crate) fn retired_line(retire: Option<Entry>) -> Option<Retire>
-    ensures { result ≡ option_map spec.line_of retire }
+pub(crate) fn retired_line(retire: &Option<Entry>) -> Option<Retire>
+    ensures { result ≡ option_map spec.line_of retire.now }
 {
-    let entry = retire?;
+    let entry = retire.as_ref()?;
     Some(Retire {
         pc: entry.pc,
         word: entry.word,

@@ -19,20 +19,20 @@ pub(crate) fn settle(table: &mut FlightTable, choices: &Choices, bus: &Bus)
       entries = spec.settled_entries choices.now bus.now table.old.entries;
     } }
 {
-    response_step(table, choices.offer, bus);
-    sent_step(table, choices.present, bus);
-    release_step(table, choices.release);
+    response_step(table, &choices.offer, bus);
+    sent_step(table, &choices.present, bus);
+    release_step(table, &choices.release);
     cut_step(table, choices.cut);
     drain_step(table, choices.drain);
     result_step(table, bus);
-    execute_step(table, choices.execute);
-    retire_step(table, choices.retire);
+    execute_step(table, &choices.execute);
+    retire_step(table, &choices.retire);
 }
 
 /// At the issue handshake the word that is offered has its response.
-fn response_step(table: &mut FlightTable, offer: Option<Entry>, bus: &Bus)
+fn response_step(table: &mut FlightTable, offer: &Option<Entry>, bus: &Bus)
     ensures { table.new ≡ record table.old {
-      entries = spec.response_step offer bus.now table.old.entries;
+      entries = spec.response_step offer.now bus.now table.old.entries;
     } }
 {
     if !(bus.issue_valid && bus.issue_ready) {
@@ -54,9 +54,9 @@ fn response_on(bus: &Bus) -> Response
 }
 
 /// At the register handshake the source registers are sent.
-fn sent_step(table: &mut FlightTable, present: Option<Presented>, bus: &Bus)
+fn sent_step(table: &mut FlightTable, present: &Option<Presented>, bus: &Bus)
     ensures { table.new ≡ record table.old {
-      entries = spec.sent_step present bus.now table.old.entries;
+      entries = spec.sent_step present.now bus.now table.old.entries;
     } }
 {
     if !(bus.register_valid && bus.register_ready) {
@@ -68,9 +68,9 @@ fn sent_step(table: &mut FlightTable, present: Option<Presented>, bus: &Bus)
 }
 
 /// A release is for the use that it names and for all older ones.
-fn release_step(table: &mut FlightTable, release: Option<Entry>)
+fn release_step(table: &mut FlightTable, release: &Option<Entry>)
     ensures { table.new ≡ record table.old {
-      entries = spec.release_step release table.old.entries;
+      entries = spec.release_step release.now table.old.entries;
     } }
 {
     if let Some(entry) = release {
@@ -108,36 +108,37 @@ fn result_step(table: &mut FlightTable, bus: &Bus)
         return;
     }
     if let Some(entry) = table.holder_of(bus.result_id) {
+        let seq = entry.seq;
         let flags = WriteFlags::from_bits_retain(bus.result_we);
         let write = unit_write(rd_field(entry.word), flags, bus.result_data);
-        table.set_result(entry.seq, write);
+        table.set_result(seq, write);
     }
 }
 
-fn execute_step(table: &mut FlightTable, execute: Option<Executed>)
+fn execute_step(table: &mut FlightTable, execute: &Option<Executed>)
     ensures { table.new ≡ record table.old {
-      entries = spec.execute_step execute table.old.entries;
+      entries = spec.execute_step execute.now table.old.entries;
     } }
 {
     if let Some(executed) = execute {
-        take_outcome(table, executed.entry.seq, executed.outcome);
+        take_outcome(table, executed.entry.seq, &executed.outcome);
     }
 }
 
-fn take_outcome(table: &mut FlightTable, seq: u64, outcome: Stepped)
+fn take_outcome(table: &mut FlightTable, seq: u64, outcome: &Stepped)
     ensures { table.new ≡ record table.old {
-      entries = map (flight.with_outcome seq outcome) table.old.entries;
+      entries = map (flight.with_outcome seq outcome.now) table.old.entries;
     } }
 {
     match outcome {
         Stepped::Retired(line) => table.set_done(seq, line.write, line.store, line.next),
-        Stepped::Stop(cause) => table.set_stop(seq, cause),
+        Stepped::Stop(cause) => table.set_stop(seq, *cause),
     }
 }
 
-fn retire_step(table: &mut FlightTable, retire: Option<Entry>)
+fn retire_step(table: &mut FlightTable, retire: &Option<Entry>)
     ensures { table.new ≡ record table.old {
-      entries = spec.retire_step retire table.old.entries;
+      entries = spec.retire_step retire.now table.old.entries;
     } }
 {
     if retire.is_some() && table.len() > 0 {

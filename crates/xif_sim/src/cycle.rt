@@ -17,7 +17,7 @@ use coproc_engine::Engine;
 use cycle_spec::CycleLog;
 use spec_core::Core;
 use xif_drive::Predictor;
-use xif_signals::{Bus, CopOut, CpuOut};
+use xif_signals::{Bus, CpuOut};
 
 /// One cycle. The bus carries `hart` where the core, which knows of one hart, says 0. The predictor
 /// is asked before it learns of what retires in the cycle.
@@ -72,37 +72,27 @@ pub fn one_cycle<P: Predictor>(
     ensures other_taken { (other : ℕ) → other ≢ hart → HasServed engine.old →
         AreTaken engine.old other → uses_of engine.new other ≡ uses_of engine.old other }
 {
-    let driven = core.drive();
-    let cpu = for_hart(hart, driven);
+    let mut cpu = core.drive();
+    for_hart(hart, &mut cpu);
     let cop = engine.drive(&cpu);
     let input = core.accepts(&cop);
-    let log = core.clock(&Bus::join(&driven, &for_core(cop), &input), predictor);
+    // The core asks for no hart, so that it may see the bus as it is.
+    let bus = Bus::join(&cpu, &cop, &input);
+    let log = core.clock(&bus, predictor);
     engine.clock(&cpu, &cop, &input);
-    (Bus::join(&cpu, &cop, &input), log)
+    (bus, log)
 }
 
-fn for_hart(hart: u8, cpu: CpuOut) -> CpuOut
-    ensures { result ≡ spec.for_hart hart cpu }
+fn for_hart(hart: u8, cpu: &mut CpuOut)
+    ensures { cpu.new ≡ spec.for_hart hart cpu.old }
 {
-    CpuOut {
-        issue_hartid: hart_if(cpu.issue_valid, hart),
-        register_hartid: hart_if(cpu.register_valid, hart),
-        commit_hartid: hart_if(cpu.commit_valid, hart),
-        ..cpu
-    }
+    cpu.issue_hartid = hart_if(cpu.issue_valid, hart);
+    cpu.register_hartid = hart_if(cpu.register_valid, hart);
+    cpu.commit_hartid = hart_if(cpu.commit_valid, hart);
 }
 
 fn hart_if(valid: bool, hart: u8) -> u8
     ensures { result ≡ spec.hart_if valid hart }
 {
     if valid { hart } else { 0 }
-}
-
-fn for_core(cop: CopOut) -> CopOut
-    ensures { result ≡ spec.for_core cop }
-{
-    CopOut {
-        result_hartid: 0,
-        ..cop
-    }
 }

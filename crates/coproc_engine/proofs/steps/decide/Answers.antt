@@ -6,5 +6,5 @@ use Rattle.coproc_engine.proofs.steps.decide.Goals as goal
 pub loop-entry-preserved : goal.loop-entry-preserved
 loop-entry-preserved c =
     let lt : c.loop-entry.entry-index < length c.args.uses.now = omega arith in
-    ap (λ e. set c.loop-entry.uses c.loop-entry.entry-index e) c.with_decision.ensures
+    ap (λ e. set c.loop-entry.uses c.loop-entry.entry-index e) c.decide_use.ensures
     ∙ mapped_more (with_decision c.args.kill c.args.named.now) c.args.uses.now c.loop-entry.uses c.loop-entry.entry-index _ lt c.loop-entry.invariant

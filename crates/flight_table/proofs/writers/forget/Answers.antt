@@ -1,10 +1,8 @@
-use Rattle.std.proofs.Common.{◌<◌, length, set, ap, ◌∙◌, arith}
-use Rattle.flight_table.specs.Index.{forgotten}
-use Rattle.flight_table.proofs.Scans.{mapped_more}
+use Rattle.flight_table.proofs.Slots.{forgot}
 use Rattle.flight_table.proofs.writers.forget.Goals as goal
 
-pub loop-writer-preserved : goal.loop-writer-preserved
-loop-writer-preserved c =
-    let lt : c.loop-writer.writer-index < length c.args.writers.now = omega arith in
-    ap (λ e. set c.loop-writer.writers c.loop-writer.writer-index e) c.forgotten.ensures
-    ∙ mapped_more (forgotten c.args.seq) c.args.writers.now c.loop-writer.writers c.loop-writer.writer-index _ lt c.loop-writer.invariant
+pub returns : goal.returns
+returns c = λ dual_write.
+    forgot dual_write c.args.entry.now c.args.writers.now c.forget_one.new.writers c.forget_one-2.new.writers
+    c.first_target-first.result c.saturating_add.result c.first_target-first.ensures c.saturating_add.ensures
+    c.forget_one.ensures.named c.forget_one.ensures.others c.forget_one-2.ensures.named c.forget_one-2.ensures.others

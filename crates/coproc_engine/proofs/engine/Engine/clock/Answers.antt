@@ -1,4 +1,4 @@
-use Rattle.std.proofs.Common.{List, ◌+◌, ap, rules, arith, ap₂, ◌≡◌, ◌<◌, ◌≤◌, length, subst, sym, ◌∙◌, filter, not, vec_capacity, IsTrue, All}
+use Rattle.std.proofs.Common.{List, ◌+◌, ap, rules, arith, ap₂, ◌≡◌, ◌<◌, ◌≤◌, length, subst, sym, ◌∙◌, filter, not, option_copied, vec_capacity, IsTrue, All}
 use Rattle.xif_signals.specs.declared.signal.Signal.TheVariants.{ResultData, ResultWe}
 use Rattle.xif_signals.specs.Signal.{width_of}
 use Rattle.coproc_config.specs.Accept.{hit_of}
@@ -43,7 +43,8 @@ settle-requires-clause-entries c =
     let given : c.given_step.new.uses ≡ spec.given_uses e cpu cop = c.given_step.ensures ∙ ap (spec.given_step cpu cop) answered in
     let decided : c.decide_step.new.uses ≡ spec.decided_uses e cpu cop = c.decide_step.ensures ∙ ap (spec.decide_step cpu) given in
     let ended : c.end_step.new.uses ≡ spec.ended_uses e cpu cop input =
-    c.end_step.ensures ∙ ap₂ (λ offered us. spec.end_step offered cop input us) c.offered_use-offered.ensures.value decided in
+    c.end_step.ensures (option_copied c.offered_use.result) (c.start_of-offered.ensures)
+    ∙ ap₂ (λ offered us. spec.end_step offered cop input us) c.offered_use.ensures.value decided in
     let entries : HaveEntries e.set e.uses = subst (λ (x : Engine). HaveEntries x.set x.uses) c.self.view_is c.self.invariant.1.1.0.entries in
     let begun : HaveEntries x.set c.as_mut_slice-uses.result.now =
     subst (λ us. HaveEntries x.set us) (sym started)
@@ -71,7 +72,8 @@ invariant_of-self c =
     let given : c.given_step.new.uses ≡ spec.given_uses e cpu cop = c.given_step.ensures ∙ ap (spec.given_step cpu cop) answered in
     let decided : c.decide_step.new.uses ≡ spec.decided_uses e cpu cop = c.decide_step.ensures ∙ ap (spec.decide_step cpu) given in
     let ended : c.end_step.new.uses ≡ spec.ended_uses e cpu cop input =
-    c.end_step.ensures ∙ ap₂ (λ offered us. spec.end_step offered cop input us) c.offered_use-offered.ensures.value decided in
+    c.end_step.ensures (option_copied c.offered_use.result) (c.start_of-offered.ensures)
+    ∙ ap₂ (λ offered us. spec.end_step offered cop input us) c.offered_use.ensures.value decided in
     let at : c.deref_mut.result.now ≡ x.units.items = search rules in
     let settled_are : c.settle.new.uses ≡ spec.settled_uses e cpu cop input =
     c.settle.ensures.uses
@@ -104,7 +106,7 @@ invariant_of-self c =
     let issues : AreCountedBy (x.cycle + 1) c.transactions_after-self-inside.result =
     subst (AreCountedBy (x.cycle + 1)) (sym c.transactions_after-self-inside.ensures) (after_counted x.cycle x.issue_turns c.owner_if.result c.args.cop.now.issue_ready counts.issues) in
     let registers : AreCountedBy (x.cycle + 1) c.transactions_after-self-inside-2.result =
-    subst (AreCountedBy (x.cycle + 1)) (sym c.transactions_after-self-inside-2.ensures) (after_counted x.cycle x.register_turns c.owner_if-2.result c.args.cop.now.register_ready counts.registers) in
+    subst (AreCountedBy (x.cycle + 1)) (sym c.transactions_after-self-inside-2.ensures) (after_counted x.cycle x.register_turns c.register_owner-register_owner.result c.args.cop.now.register_ready counts.registers) in
     let fit : All (IsStateOf x.set) c.look_ahead.new.ahead = c.look_ahead.ensures.fits in (
       c.self.invariant.0,
       (
@@ -141,7 +143,8 @@ returns-clause-after c =
     let given : c.given_step.new.uses ≡ spec.given_uses e cpu cop = c.given_step.ensures ∙ ap (spec.given_step cpu cop) answered in
     let decided : c.decide_step.new.uses ≡ spec.decided_uses e cpu cop = c.decide_step.ensures ∙ ap (spec.decide_step cpu) given in
     let ended : c.end_step.new.uses ≡ spec.ended_uses e cpu cop input =
-    c.end_step.ensures ∙ ap₂ (λ offered us. spec.end_step offered cop input us) c.offered_use-offered.ensures.value decided in
+    c.end_step.ensures (option_copied c.offered_use.result) (c.start_of-offered.ensures)
+    ∙ ap₂ (λ offered us. spec.end_step offered cop input us) c.offered_use.ensures.value decided in
     let at : c.deref_mut.result.now ≡ x.units.items = search rules in
     let settled_are : c.settle.new.uses ≡ spec.settled_uses e cpu cop input =
     c.settle.ensures.uses
@@ -164,14 +167,15 @@ returns-clause-after c =
     c.transactions_after-self-inside.ensures
     ∙ ap (λ owner. transactions_after x.issue_turns owner cop.issue_ready) issue
     ∙ ap (λ (y : Engine). transactions_after y.issue_turns (spec.owner_if cpu.issue_valid (spec.issue_start e cpu)) cop.issue_ready) v in
-    let register : c.owner_if-2.result ≡ spec.owner_if cpu.register_valid (spec.register_start e cpu) =
-    c.owner_if-2.ensures ∙ ap (spec.owner_if cpu.register_valid) c.register_start-register_start.ensures in
+    let register : c.register_owner-register_owner.result ≡ spec.owner_if cpu.register_valid (spec.register_start e cpu) =
+    c.register_owner-register_owner.ensures in
     let registers : c.transactions_after-self-inside-2.result ≡ transactions_after e.register_turns (spec.owner_if cpu.register_valid (spec.register_start e cpu)) cop.register_ready =
     c.transactions_after-self-inside-2.ensures
     ∙ ap (λ owner. transactions_after x.register_turns owner cop.register_ready) register
     ∙ ap (λ (y : Engine). transactions_after y.register_turns (spec.owner_if cpu.register_valid (spec.register_start e cpu)) cop.register_ready) v in
     let waiting : c.result_waiting_after-self-inside.result ≡ spec.result_waiting_after (spec.offered_use e) input =
-    c.result_waiting_after-self-inside.ensures ∙ ap (λ offered. spec.result_waiting_after offered input) c.offered_use-offered.ensures.value in
+    c.result_waiting_after-self-inside.ensures (option_copied c.offered_use.result) (c.start_of-offered.ensures)
+    ∙ ap (λ offered. spec.result_waiting_after offered input) c.offered_use.ensures.value in
     λ i. record {
       params = (v i).params;
       set = (v i).set;

@@ -1,9 +1,8 @@
-use Rattle.std.proofs.Common.{List, Option, ℕ, map, sym, subst}
+use Rattle.std.proofs.Common.{sym, subst}
 use Rattle.circular_buffer.specs.Buffer.{Buffer}
 use Rattle.cycle_spec.specs.declared.entry.Entry.{Entry}
 use Rattle.flight_table.specs.Table.{Table}
 use Rattle.flight_table.specs.Index.{IsKept}
-use Rattle.flight_table.specs.Index.{forgotten}
 use Rattle.flight_table.proofs.Scans.{drop_at}
 use Rattle.flight_table.proofs.Kept.{drop_kept}
 use Rattle.flight_table.proofs.table.FlightTable.retire_front.Goals as goal
@@ -11,7 +10,5 @@ use Rattle.flight_table.proofs.table.FlightTable.retire_front.Goals as goal
 pub invariant_of-self : goal.invariant_of-self
 invariant_of-self c =
     let t : Table = record { dual_write = c.self.inside.dual_write; window = c.self.inside.ring.capacity; next_seq = c.self.inside.next_seq; entries = c.self.inside.ring.items } in
-    let e = c.in-Some.entry in
-    subst (λ (ws : List (Option ℕ)). IsKept (record { dual_write = t.dual_write; window = c.pop_front.new.self.capacity; next_seq = t.next_seq; entries = c.pop_front.new.self.items }) ws) (sym c.forget.ensures)
-    (subst (λ (b : Buffer Entry). IsKept (record { dual_write = t.dual_write; window = b.capacity; next_seq = t.next_seq; entries = b.items }) (map (forgotten e.seq) c.self.inside.writers)) (sym c.pop_front.ensures.items)
-    (drop_kept t e c.self.inside.writers c.self.invariant (drop_at t.entries 0 e (sym c.in-Some.ensures.value))))
+    subst (λ (b : Buffer Entry). IsKept (record { dual_write = t.dual_write; window = b.capacity; next_seq = t.next_seq; entries = b.items }) c.forget.new.writers) (sym c.pop_front.ensures.items)
+    (drop_kept t c.in-Some.entry c.self.inside.writers c.forget.new.writers c.self.invariant (drop_at t.entries 0 c.in-Some.entry (sym c.in-Some.ensures.value)) (c.forget.ensures t.dual_write))

@@ -12,7 +12,7 @@ use Rattle.flight_table.proofs.table.FlightTable.set_response.Goals as goal
 pub invariant_of-self : goal.invariant_of-self
 invariant_of-self c =
     let t : Table = record { dual_write = c.self.inside.dual_write; window = c.self.inside.ring.capacity; next_seq = c.self.inside.next_seq; entries = c.self.inside.ring.items } in
-    let none : find (has_seq c.args.seq) t.entries ≡ None = sym c.entry_of-answered.ensures ∙ c.in_default.is in
+    let none : find (has_seq c.args.seq) t.entries ≡ None = sym (c.copied-answered.ensures ∙ c.entry_of.ensures) ∙ c.in_default.is in
     subst (λ (b : Buffer Entry). IsKept (record { dual_write = t.dual_write; window = b.capacity; next_seq = t.next_seq; entries = b.items }) c.self.inside.writers) (sym c.change_all.ensures)
     (change_kept t (change.Response c.args.response) c.args.seq c.self.inside.writers c.self.inside.writers c.self.invariant
     (kept_unanswered t.dual_write c.args.seq c.args.response t.entries c.self.inside.writers none c.self.invariant.index))
@@ -20,7 +20,7 @@ invariant_of-self c =
 pub invariant_of-self-2 : goal.invariant_of-self-2
 invariant_of-self-2 c =
     let t : Table = record { dual_write = c.self.inside.dual_write; window = c.self.inside.ring.capacity; next_seq = c.self.inside.next_seq; entries = c.self.inside.ring.items } in
-    let found : find (has_seq c.args.seq) t.entries ≡ Some c.in-Some.entry = sym c.in-Some.ensures in
+    let found : find (has_seq c.args.seq) t.entries ≡ Some c.in-Some.entry = sym c.entry_of.ensures ∙ sym c.in-Some.ensures in
     subst (λ (b : Buffer Entry). IsKept (record { dual_write = t.dual_write; window = b.capacity; next_seq = t.next_seq; entries = b.items }) c.mend.new.writers) (sym c.change_all.ensures)
     (change_kept t (change.Response c.args.response) c.args.seq c.self.inside.writers c.mend.new.writers c.self.invariant
     (kept_answered t.dual_write c.args.seq c.args.response 0 t.next_seq t.entries c.in-Some.entry c.self.inside.writers c.mend.new.writers c.self.invariant.rises found c.self.invariant.index
