@@ -13,7 +13,7 @@ pub const SHORT: usize = 64;
 /// 00 is 0, 10 is 1, 11 is x and 01 is z.
 #[derive(Debug, Drop)]
 pub struct ShortDigits {
-    count: u8,
+    count: usize,
     aval: u64,
     bval: u64,
 }
@@ -43,7 +43,7 @@ impl ShortDigits {
     }
 
     /// A number in binary.
-    pub fn binary(count: u8, number: u64) -> ShortDigits
+    pub fn binary(count: usize, number: u64) -> ShortDigits
         requires few { count ≤ 64 }
         requires below { number < 2 ^ count }
         ensures { result ≡ digits_by count number 0 }
@@ -81,7 +81,7 @@ impl ShortDigits {
     pub fn len(&self) -> usize
         ensures { result ≡ length self.now }
     {
-        usize::from(self.count)
+        self.count
     }
 
     /// The digit at a place, counted from 0 at the left.
@@ -89,7 +89,7 @@ impl ShortDigits {
         requires { i < length self.now }
         ensures { slice_get self.now i ≡ Some result }
     {
-        let place = self.len() - 1 - i;
+        let place = self.count - 1 - i;
         digit_of((self.aval >> place) % 2, (self.bval >> place) % 2)
     }
 

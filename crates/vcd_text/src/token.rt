@@ -96,7 +96,7 @@ fn binary_digits(bytes: &[u8]) -> Option<ShortDigits>
         }
         number = number * 2 + u64::from(*byte - b'0');
     }
-    Some(ShortDigits::binary(bytes.len() as u8, number))
+    Some(ShortDigits::binary(bytes.len(), number))
 }
 
 #[inline(never)]

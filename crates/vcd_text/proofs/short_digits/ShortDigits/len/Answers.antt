@@ -4,4 +4,4 @@ use Rattle.vcd_text.proofs.short_digits.ShortDigits.len.Goals as goal
 
 pub returns : goal.returns
 returns c =
-    c.from.ensures ∙ sym (length-digits_by c.self.inside.count c.self.inside.aval c.self.inside.bval) ∙ ap length c.self.view_is
+    sym (length-digits_by c.self.inside.count c.self.inside.aval c.self.inside.bval) ∙ ap length c.self.view_is
