@@ -179,8 +179,6 @@ impl Scanner {
     }
 
     /// Ends the token that is open, if there is one.
-    // Few tokens are cut in two.
-    #[inline(never)]
     pub fn end_token(&mut self) -> Result<(), NoMemory>
         requires sound { self.old.fault ≡ None }
         requires room { self.old.size < 2 ^ 32 }
@@ -202,7 +200,6 @@ impl Scanner {
     }
 
     /// Reads a token that ends before an offset, if it has a byte.
-    #[inline(always)]
     fn token(&mut self, end: u64, token: &[u8]) -> Result<(), NoMemory>
         requires sound { self.old.fault ≡ None }
         requires codes { length self.old.state.codes < 2 ^ 32 }
