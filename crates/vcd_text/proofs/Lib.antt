@@ -2,6 +2,7 @@ pub mod CodeTable
 pub mod ShortCodes
 pub mod Following
 pub mod Ink
+pub mod Vectors
 pub mod Front
 pub mod Sound
 pub mod SoundReading

@@ -1,5 +1,7 @@
 pub mod Words
 pub mod Tokens
+pub mod Vectors
+pub mod Digits
 pub mod Codes
 pub mod ShortCodes
 pub mod Grammar

@@ -1,7 +1,8 @@
 //! The digits of a value, and a value as a list of them.
-ghost use Rattle.std.specs.Prelude.{◌≡◌, ◌<◌, ◌++◌, [], ◌∷◌, Some, length, slice_get, IfOk, OnOk, OnErr};
+ghost use Rattle.std.specs.Prelude.{◌≡◌, ◌≤◌, ◌<◌, ◌^◌, [], ◌∷◌, Some, length, slice_get, IfOk, IfSome};
+ghost use Rattle.vcd_text.specs.Vectors.{digits_by, IsBinary};
 
-use smallvec::SmallVec;
+use crate::short_digits::{SHORT, ShortDigits};
 use std::alloc::Global;
 use std::marker::Model;
 use xif_base::NoMemory;
@@ -21,73 +22,97 @@ pub enum Digit {
 /// The digits of a value as they are written, the leftmost first.
 #[derive(Debug, Drop)]
 pub struct Digits {
-    // Most values have no more digits than this, and need no memory of their own.
-    items: SmallVec<Digit, 32>,
+    repr: Repr,
+}
+
+#[derive(Debug, Drop)]
+enum Repr {
+    // Most values have so few digits, and need no memory of their own.
+    Short(ShortDigits),
+    Long(Vec<Digit>),
 }
 
 impl Model for Digits {
     ghost use Rattle.std.specs.Prelude.{List};
     ghost use Rattle.vcd_text.specs.declared.digit.Digit.{Digit};
+    ghost use Rattle.vcd_text.specs.Digits.{digits_in};
 
     ghost Value = { List Digit };
 
-    ghost view = { λ d. d.items.items };
+    ghost view = { λ d. digits_in d.repr };
 }
 
 impl Digits {
     /// No digits.
-    pub fn new(alloc: Global) -> Digits
+    pub fn new() -> Digits
         ensures { result ≡ [] }
     {
-        Digits {
-            items: SmallVec::new(alloc),
-        }
+        Digits::short(ShortDigits::new())
     }
 
-    /// No digits, with room for a number of them.
-    pub fn with_capacity(alloc: Global, count: usize) -> Result<Digits, NoMemory>
-        ensures { IfOk result (λ digits. digits ≡ []) }
+    /// One digit.
+    pub fn one(digit: Digit) -> Digits
+        ensures { result ≡ digit ∷ [] }
     {
-        Ok(Digits {
-            items: SmallVec::with_capacity(alloc, count)?,
-        })
+        let mut digits = ShortDigits::new();
+        digits.push(digit);
+        Digits::short(digits)
     }
 
     /// These digits.
-    pub(crate) fn of(items: SmallVec<Digit, 32>) -> Digits
-        ensures { result ≡ items.items }
+    pub fn from_slice(alloc: Global, digits: &[Digit]) -> Result<Digits, NoMemory>
+        ensures { IfOk result (λ found. found ≡ digits.now) }
     {
-        Digits { items }
+        if digits.len() <= SHORT {
+            return Ok(Digits::short(ShortDigits::from_slice(digits)));
+        }
+        Ok(Digits::long(Vec::from_slice(alloc, digits)?))
     }
 
-    /// Adds a digit at the right.
-    pub fn push(&mut self, digit: Digit) -> Result<(), NoMemory>
-        ensures ok { OnOk result (self.new ≡ self.old ++ digit ∷ []) }
-        ensures err { OnErr result (self.new ≡ self.old) }
+    pub(crate) fn short(digits: ShortDigits) -> Digits
+        ensures { result ≡ digits }
     {
-        self.items.push(digit)?;
-        Ok(())
+        Digits {
+            repr: Repr::Short(digits),
+        }
+    }
+
+    pub(crate) fn long(digits: Vec<Digit>) -> Digits
+        ensures { result ≡ digits.items }
+    {
+        Digits {
+            repr: Repr::Long(digits),
+        }
     }
 
     /// How many digits there are.
     pub fn len(&self) -> usize
         ensures { result ≡ length self.now }
     {
-        self.items.len()
+        match &self.repr {
+            Repr::Short(digits) => digits.len(),
+            Repr::Long(digits) => digits.len(),
+        }
     }
 
     /// The digit at a place, counted from 0 at the left.
-    pub fn get(&self, i: usize) -> &Digit
+    pub fn get(&self, i: usize) -> Digit
         requires { i < length self.now }
-        ensures { slice_get self.now i ≡ Some result.now }
+        ensures { slice_get self.now i ≡ Some result }
     {
-        &self.items.as_slice()[i]
+        match &self.repr {
+            Repr::Short(digits) => digits.get(i),
+            Repr::Long(digits) => digits[i],
+        }
     }
 
-    /// All digits, the leftmost first.
-    pub fn as_slice(&self) -> &[Digit]
-        ensures { result.now ≡ self.now }
+    /// The number that the digits write in binary, where there are 1 to 64 and each is 0 or 1.
+    pub fn number(&self) -> Option<u64>
+        ensures { IfSome result (IsBinary self.now) }
     {
-        self.items.as_slice()
+        match &self.repr {
+            Repr::Short(digits) => digits.number(),
+            Repr::Long(_) => None,
+        }
     }
 }

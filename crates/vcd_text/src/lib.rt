@@ -13,10 +13,10 @@
 //! The definitions stand in `specs/`. To be believed, in this order: `Words` (what single tokens
 //! are), `Tokens` (the tokens of a text), `Codes` (identifier codes), `Phrases` (the grammar),
 //! `Reader` (which text a reader represents), `Sizes` (what every reading keeps), `Written` (the
-//! text of a list of buses, and what it says), `Writing` (which buses a writer has written).
-//! `Grammar` (what a token does) and `Reading` (what tokens do together) are the reader's
-//! automaton, which the contracts cite and which `grammar_law` ties to `Phrases`. `Scanner`,
-//! `Steps`, `Sound` and `ShortCodes` are internal.
+//! text of a list of buses, and what it says), `Writing` (which buses a writer has written),
+//! `Vectors` (which number digits write). `Grammar` (what a token does) and `Reading` (what tokens
+//! do together) are the reader's automaton, which the contracts cite and which `grammar_law` ties
+//! to `Phrases`. `Digits`, `Scanner`, `Steps`, `Sound` and `ShortCodes` are internal.
 #![tactic(auto)]
 
 mod codes;
@@ -33,6 +33,7 @@ mod reader;
 mod scanner;
 mod scopes;
 mod short_codes;
+mod short_digits;
 mod state;
 mod step;
 mod stop;

@@ -17,6 +17,7 @@ use crate::{Declarations, Item, VcdCause, VcdFault};
 use std::alloc::Global;
 use std::collections::VecDeque;
 use std::mem;
+use std::simd::prelude::*;
 use xif_base::NoMemory;
 
 /// Takes a text in, byte by byte, up to its first fault.
@@ -254,17 +255,17 @@ impl Scanner {
 }
 
 /// How many bytes `word_len` looks at in one turn.
-const TURN: usize = 8;
+const TURN: usize = 16;
 
-/// How many bytes come before white space. It goes in turns of a fixed length, which take less work
-/// than a test of the end behind each byte.
+/// How many bytes come before a byte that may be white space: none of them is. It goes in turns of
+/// a fixed length, which take less work than a test of each byte.
 fn word_len(bytes: &[u8]) -> usize
     ensures within { result ≤ length bytes.now }
     ensures ink { list_all is_ink (take result bytes.now) ≡ true }
 {
     let mut len = 0;
     while TURN <= bytes.len() - len {
-        let more = ink_len(&bytes[len..len + TURN]);
+        let more = turn_len(&bytes[len..len + TURN]);
         len += more;
         if more < TURN {
             return len;
@@ -273,7 +274,24 @@ fn word_len(bytes: &[u8]) -> usize
     len + ink_len(&bytes[len..])
 }
 
+/// How many bytes of a turn come before one that is not above a space: all white space is so low.
 #[inline(always)]
+fn turn_len(bytes: &[u8]) -> usize
+    requires { length bytes.now ≡ 16 }
+    ensures within { result ≤ 16 }
+    ensures ink { list_all is_ink (take result bytes.now) ≡ true }
+{
+    let low = u8x16::from_slice(bytes)
+        .simd_le(u8x16::splat(b' '))
+        .to_bitmask();
+    if low == 0 {
+        TURN
+    } else {
+        low.trailing_zeros() as usize
+    }
+}
+
+/// How many bytes come before white space.
 fn ink_len(bytes: &[u8]) -> usize
     ensures within { result ≤ length bytes.now }
     ensures ink { list_all is_ink (take result bytes.now) ≡ true }

@@ -106,7 +106,7 @@ impl State {
                 Ok(None)
             }
             b'$' => self.command(at, keyword(token)),
-            first => self.scalar(alloc, at, first, rest),
+            first => self.scalar(at, first, rest),
         }
     }
 
@@ -149,7 +149,7 @@ impl State {
         }
     }
 
-    fn scalar(&self, alloc: Global, at: u64, first: u8, code: &[u8]) -> Result<Option<Item>, Stop>
+    fn scalar(&self, at: u64, first: u8, code: &[u8]) -> Result<Option<Item>, Stop>
         ensures { StepsTo self.now self.now result (scalar self.now at (digit first) code.now) }
     {
         let Some(found) = digit(first) else {
@@ -158,9 +158,7 @@ impl State {
         if code.is_empty() {
             return Stop::fault(VcdCause::BadToken, at);
         }
-        let mut digits = Digits::new(alloc);
-        digits.push(found)?;
-        self.change(at, digits, at, code)
+        self.change(at, Digits::one(found), at, code)
     }
 
     /// Returns a change of a code. The code is tested before the width.

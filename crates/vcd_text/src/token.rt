@@ -2,13 +2,12 @@
 ghost use Rattle.std.specs.Prelude.{◌≡◌, ◌≤◌, ◌+◌, ◌++◌, ◌&&◌, nat_le, List, Some, length, true, false, IfOk, IfSome, IfNone};
 ghost use Rattle.std.specs.List.{list_all};
 ghost use Rattle.std.specs.Str.{is_utf8};
-ghost use Rattle.smallvec.specs.SmallVec.{HasRoomFor, small_vec_len};
 ghost use Rattle.vcd_text.specs.declared.digit.Digit.{Digit};
 ghost use Rattle.vcd_text.specs.Words.{is_white, zero_digit, number, digit, digits, keyword, is_end, is_command, is_code_character, is_code};
 
 use crate::keyword::Keyword;
+use crate::short_digits::{SHORT, ShortDigits};
 use crate::{Digit, Digits};
-use smallvec::SmallVec;
 use std::alloc::Global;
 use xif_base::NoMemory;
 
@@ -74,69 +73,56 @@ fn binary_digit(byte: u8) -> Digit
 pub fn digits(alloc: Global, bytes: &[u8]) -> Result<Option<Digits>, NoMemory>
     ensures { IfOk result (λ found. found ≡ digits bytes.now) }
 {
-    match binary_digits(alloc, bytes) {
-        Some(found) => Ok(Some(found)),
-        None => any_digits(alloc, bytes),
+    if bytes.len() > SHORT {
+        return long_digits(alloc, bytes);
     }
+    // Nearly all values are binary.
+    let found = match binary_digits(bytes) {
+        Some(found) => Some(found),
+        None => short_digits(bytes),
+    };
+    Ok(found.map(Digits::short))
 }
 
-/// How many bytes `binary_digits` takes in one turn.
-const TURN: usize = 8;
-
-/// The digits that the bytes are, where they are no more than 32 and each is `0` or `1`. It goes in
-/// turns of a fixed length, which take less work than a test of the end behind each byte.
-fn binary_digits(alloc: Global, bytes: &[u8]) -> Option<Digits>
+/// The digits that the bytes are, if each is `0` or `1`.
+fn binary_digits(bytes: &[u8]) -> Option<ShortDigits>
+    requires { length bytes.now ≤ 64 }
     ensures { IfSome result (λ found. digits bytes.now ≡ Some found) }
 {
-    if bytes.len() > 32 {
-        return None;
-    }
-    let mut found = SmallVec::new(alloc);
-    let mut rest = bytes;
-    while TURN <= rest.len() {
-        let (turn, more) = rest.split_at(TURN);
-        if !push_binary(&mut found, turn) {
-            return None;
-        }
-        rest = more;
-    }
-    if !push_binary(&mut found, rest) {
-        return None;
-    }
-    Some(Digits::of(found))
-}
-
-/// Adds the digits that the bytes are, if each is `0` or `1`.
-#[inline(always)]
-fn push_binary(found: &mut SmallVec<Digit, 32>, bytes: &[u8]) -> bool
-    requires room { HasRoomFor found.old (length bytes.now) }
-    ensures all { result ≡ true → (ds : List Digit) × (digits bytes.now ≡ Some ds)
-        × (found.new.items ≡ found.old.items ++ ds) }
-    ensures count { result ≡ true →
-        small_vec_len found.new ≡ small_vec_len found.old + length bytes.now }
-    ensures capacity { found.new.capacity ≡ found.old.capacity }
-{
+    let mut number = 0;
     for byte in bytes {
         if !is_binary(*byte) {
-            return false;
+            return None;
         }
-        found.push_reserved(binary_digit(*byte));
+        number = number * 2 + u64::from(*byte - b'0');
     }
-    true
+    Some(ShortDigits::binary(bytes.len(), number))
 }
 
 #[inline(never)]
-fn any_digits(alloc: Global, bytes: &[u8]) -> Result<Option<Digits>, NoMemory>
+fn short_digits(bytes: &[u8]) -> Option<ShortDigits>
+    requires { length bytes.now ≤ 64 }
+    ensures { result ≡ digits bytes.now }
+{
+    let mut found = ShortDigits::new();
+    for byte in bytes {
+        found.push(digit(*byte)?);
+    }
+    Some(found)
+}
+
+#[inline(never)]
+fn long_digits(alloc: Global, bytes: &[u8]) -> Result<Option<Digits>, NoMemory>
     ensures { IfOk result (λ found. found ≡ digits bytes.now) }
 {
-    let mut found = Digits::with_capacity(alloc, bytes.len())?;
+    let mut found = Vec::with_capacity(alloc, bytes.len())?;
     for byte in bytes {
         let Some(next) = digit(*byte) else {
             return Ok(None);
         };
         found.push(next)?;
     }
-    Ok(Some(found))
+    Ok(Some(Digits::long(found)))
 }
 
 /// The keyword command that a token is.

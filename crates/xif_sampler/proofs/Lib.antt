@@ -1,4 +1,5 @@
 pub mod Bits
+pub mod Numbers
 pub mod Named
 pub mod Sources
 pub mod Lists

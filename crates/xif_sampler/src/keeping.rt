@@ -7,7 +7,7 @@ ghost use Rattle.xif_sampler.specs.Steps.{source_at, is_of, bits_taken, AreWithi
 use crate::digits::quad_of;
 use crate::source::{Readers, Source};
 use std::alloc::{AllocError, Global};
-use vcd_text::Digit;
+use vcd_text::Digits;
 use xif_signals::Quad;
 
 /// For each code, up to the greatest that a signal takes bits of, the signals that do.
@@ -77,7 +77,7 @@ fn first_quad(source: Source) -> Quad
 {
     match source {
         Source::Fixed(value) => Quad { value, unknown: 0 },
-        Source::Bits { low, width, .. } => quad_of(&[], low, width),
+        Source::Bits { low, width, .. } => quad_of(&Digits::new(), low, width),
     }
 }
 
@@ -87,7 +87,7 @@ pub fn change_quads(
     sources: &[Source; 29],
     readers: Readers,
     code: u32,
-    digits: &[Digit],
+    digits: &Digits,
 )
     requires within { AreWithin 64 sources.now }
     requires covers { Covers readers sources.now code }
@@ -102,7 +102,7 @@ pub fn change_quads(
     }
 }
 
-fn changed_quad(source: Source, quad: Quad, code: u32, digits: &[Digit]) -> Quad
+fn changed_quad(source: Source, quad: Quad, code: u32, digits: &Digits) -> Quad
     requires { bits_taken source ≤ 64 }
     ensures { result ≡ changed code digits.now source quad }
 {

@@ -88,13 +88,7 @@ impl Sampler {
             → Represents self.new sources (Change code digits.now ∷ history) }
     {
         let readers = find_readers(&self.readers, code);
-        change_quads(
-            &mut self.now,
-            &self.sources,
-            readers,
-            code,
-            digits.as_slice(),
-        );
+        change_quads(&mut self.now, &self.sources, readers, code, digits);
     }
 
     /// Takes a time. One that is greater than the last ends the instant, and returns its sample if

@@ -96,8 +96,8 @@ fn items_text(alloc: Global, reader: &mut Reader) -> Result<String, AllocError> 
         match reader.take() {
             Some(Item::Time(time)) => write!(out, "#{time} ")?,
             Some(Item::Change { code, digits }) => {
-                for digit in digits.as_slice() {
-                    out.push(character(*digit))?;
+                for i in 0..digits.len() {
+                    out.push(character(digits.get(i)))?;
                 }
                 write!(out, "@{code} ")?;
             }

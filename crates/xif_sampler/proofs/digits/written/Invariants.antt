@@ -1,6 +1,6 @@
 use Rattle.std.proofs.Common.{◌≡◌, ◌-◌, length}
 use Rattle.xif_sampler.specs.Digits.{value_bit_of, unknown_bit_of, bits_from}
-use Rattle.xif_sampler.proofs.digits.any_bits.Given as goal
+use Rattle.xif_sampler.proofs.digits.written.Given as goal
 
 abbrev pub invariant-loop-index : goal.invariant-loop-index
 invariant-loop-index l = record {

@@ -1,8 +1,9 @@
-use Rattle.std.proofs.Common.{◌+◌, ◌-◌, ◌*◌, ◌^◌, ◌<◌, arith, length}
+use Rattle.std.proofs.Common.{◌+◌, ◌-◌, ◌*◌, ◌^◌, ◌<◌, ◌≡◌, ap, arith, get_or, length}
+use Rattle.std.proofs.lemmas.Option.{get_or_from_slice_get}
 use Rattle.vcd_text.specs.declared.digit.Digit.TheVariants.{Zero}
 use Rattle.xif_sampler.specs.Digits.{value_bit_of, unknown_bit_of, bits_from}
 use Rattle.xif_sampler.proofs.Bits.{value_small, unknown_small, bits_double, bits_on}
-use Rattle.xif_sampler.proofs.digits.any_bits.Goals as goal
+use Rattle.xif_sampler.proofs.digits.written.Goals as goal
 
 pub overflow_mul-quad : goal.overflow_mul-quad
 overflow_mul-quad c =
@@ -36,6 +37,10 @@ pub loop-index-preserved : goal.loop-index-preserved
 loop-index-preserved c =
     let i = c.loop-index in
     let ds = c.args.digits.now in
+    let digit : get_or ds i.index Zero ≡ c.get-digit.result = get_or_from_slice_get ds i.index c.get-digit.result Zero c.get-digit.ensures in
     let value = bits_on value_bit_of ds c.args.start i.index Zero (omega arith) (omega arith) in
     let unknown = bits_on unknown_bit_of ds c.args.start i.index Zero (omega arith) (omega arith) in
-    record { value = omega (arith, value); unknown = omega (arith, unknown) }
+    record {
+      value = omega (arith, value, ap value_bit_of digit, c.value_bit.ensures);
+      unknown = omega (arith, unknown, ap unknown_bit_of digit, c.unknown_bit.ensures);
+    }

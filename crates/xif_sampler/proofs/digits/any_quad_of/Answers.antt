@@ -2,7 +2,7 @@ use Rattle.std.proofs.Common.{◌≡◌, ◌+◌, ◌-◌, ◌^◌, ◌<◌, ◌
 use Rattle.xif_signals.specs.declared.sample.Quad.{Quad}
 use Rattle.xif_sampler.specs.Digits.{unknown_bit_of, bits_from}
 use Rattle.xif_sampler.proofs.Bits.{unknown_small, bits_filled, value_filled, fits_64}
-use Rattle.xif_sampler.proofs.digits.bits.Goals as goal
+use Rattle.xif_sampler.proofs.digits.any_quad_of.Goals as goal
 
 -- the unknown bits of the digits, and those above them
 unknown_is : (c : goal.After-struct_known-1) → c.written-quad.result.unknown + c.unknown_above.result ≡ bits_from unknown_bit_of c.args.digits.now c.args.low c.args.width

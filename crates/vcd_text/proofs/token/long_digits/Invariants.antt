@@ -1,7 +1,7 @@
 use Rattle.std.proofs.Common.{◌≡◌, drop}
 use Rattle.vcd_text.specs.Words.{digits}
 use Rattle.vcd_text.proofs.Front.{with_front}
-use Rattle.vcd_text.proofs.token.any_digits.Given as goal
+use Rattle.vcd_text.proofs.token.long_digits.Given as goal
 
 abbrev pub invariant-loop-byte : goal.invariant-loop-byte
-invariant-loop-byte l = with_front l.found (digits (drop l.byte-index l.bytes)) ≡ digits l.bytes
+invariant-loop-byte l = with_front l.found.items (digits (drop l.byte-index l.bytes)) ≡ digits l.bytes

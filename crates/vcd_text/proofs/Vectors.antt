@@ -1,0 +1,143 @@
+-- Digits as two numbers.
+use Rattle.std.proofs.Common.{◌≡◌, ◌+◌, ◌-◌, ◌*◌, ◌/◌, ◌%◌, ◌^◌, ◌<◌, ◌≤◌, ℕ, zero, suc, List, [], ◌∷◌, ◌++◌, length, get_or, Some, refl, sym, ap, ◌∙◌, arith, ◌⊎◌, inl, inr, drop, drop-cons}
+use Rattle.std.specs.Prelude.{nat_le, ◌&&◌, true}
+use Rattle.std.specs.List.{slice_get}
+use Rattle.std.proofs.Math.Nat.{pow-succ'}
+use Rattle.std.proofs.lemmas.Bool.{cases_lt}
+use Rattle.std.proofs.lemmas.Bool.Decides.{nat_tests}
+use Rattle.std.proofs.lemmas.List.{length-append, get_or-append_right, get_or_append_left}
+use Rattle.std.proofs.lemmas.Nat.{shr-shr}
+use Rattle.std.proofs.lemmas.Option.{slice_get-get_or}
+use Rattle.vcd_text.specs.declared.digit.Digit.{Digit}
+use Rattle.vcd_text.specs.declared.digit.Digit.TheVariants.{Zero, One, X, Z}
+use Rattle.vcd_text.specs.Words.{digit, digits, with_digit}
+use Rattle.vcd_text.specs.Vectors.{digit_by, digits_by, aval_of, bval_of, AreShort, IsBinary}
+use Rattle.vcd_text.proofs.Front.{with_front, front_more}
+
+pub length-digits_by : (count a b : ℕ) → length (digits_by count a b) ≡ count
+length-digits_by zero a b = refl
+length-digits_by (suc count) a b =
+    let front = digits_by count (a / 2) (b / 2) in
+    let all : length (front ++ digit_by (a % 2) (b % 2) ∷ []) ≡ length front + 1 = length-append front (digit_by (a % 2) (b % 2) ∷ []) in
+    omega (arith, all, length-digits_by count (a / 2) (b / 2))
+
+-- one digit more
+pub digits_by-push : (count a b x y : ℕ) → x < 2 → y < 2 → digits_by (suc count) (a * 2 + x) (b * 2 + y) ≡ digits_by count a b ++ digit_by x y ∷ []
+digits_by-push count a b x y h k =
+    let a_above : (a * 2 + x) / 2 ≡ a = omega (arith, h) in
+    let b_above : (b * 2 + y) / 2 ≡ b = omega (arith, k) in
+    let a_last : (a * 2 + x) % 2 ≡ x = omega (arith, h) in
+    let b_last : (b * 2 + y) % 2 ≡ y = omega (arith, k) in
+    rw (a_above, b_above, a_last, b_last) refl
+
+pub digit_by-of : (d : Digit) → digit_by (aval_of d) (bval_of d) ≡ d
+digit_by-of Zero = refl
+digit_by-of One = refl
+digit_by-of X = refl
+digit_by-of Z = refl
+
+pub aval_small : (d : Digit) → aval_of d < 2
+aval_small Zero = omega arith
+aval_small One = omega arith
+aval_small X = omega arith
+aval_small Z = omega arith
+
+pub bval_small : (d : Digit) → bval_of d < 2
+bval_small Zero = omega arith
+bval_small One = omega arith
+bval_small X = omega arith
+bval_small Z = omega arith
+
+-- with one digit more
+pub digits_push : (count a b : ℕ) (d : Digit) → digits_by (suc count) (a * 2 + aval_of d) (b * 2 + bval_of d) ≡ digits_by count a b ++ d ∷ []
+digits_push count a b d =
+    digits_by-push count a b (aval_of d) (bval_of d) (aval_small d) (bval_small d)
+    ∙ ap (λ x. digits_by count a b ++ x ∷ []) (digit_by-of d)
+
+pub short_push : (count a b : ℕ) (d : Digit) → count < 64 → AreShort count a b → AreShort (suc count) (a * 2 + aval_of d) (b * 2 + bval_of d)
+short_push count a b d h s =
+    let twice : 2 ^ suc count ≡ 2 * 2 ^ count = pow-succ' 2 count in
+    record {
+      few = omega (arith, h);
+      low = omega (arith, s.low, twice, aval_small d);
+      high = omega (arith, s.high, twice, bval_small d);
+    }
+
+-- the bit at a place above the last
+bit_above : (a count i : ℕ) → i < count → a / 2 / 2 ^ (count - 1 - i) ≡ a / 2 ^ (suc count - 1 - i)
+bit_above a count i h =
+    let place : 1 + (count - 1 - i) ≡ suc count - 1 - i = omega (arith, h) in
+    shr-shr a 1 (count - 1 - i) ∙ ap (λ k. a / 2 ^ k) place
+
+bit_last : (a count i : ℕ) → suc count - 1 - i ≡ 0 → a ≡ a / 2 ^ (suc count - 1 - i)
+bit_last a count i e = rw e (omega arith)
+
+-- the digit at a place, from the one above the last, or the last
+digit_at_place : (count a b i : ℕ) (d : Digit) → i < suc count
+    → (i < count → get_or (digits_by count (a / 2) (b / 2)) i d ≡ digit_by (a / 2 / 2 ^ (count - 1 - i) % 2) (b / 2 / 2 ^ (count - 1 - i) % 2))
+    → (i < count) ⊎ (count ≤ i)
+    → get_or (digits_by (suc count) a b) i d ≡ digit_by (a / 2 ^ (suc count - 1 - i) % 2) (b / 2 ^ (suc count - 1 - i) % 2)
+digit_at_place count a b i d h above (inl k) =
+    let front = digits_by count (a / 2) (b / 2) in
+    let last = digit_by (a % 2) (b % 2) ∷ [] in
+    get_or_append_left front last d i (rw (length-digits_by count (a / 2) (b / 2)) k) ∙ above k
+    ∙ ap (λ x. digit_by (x % 2) (b / 2 / 2 ^ (count - 1 - i) % 2)) (bit_above a count i k)
+    ∙ ap (λ x. digit_by (a / 2 ^ (suc count - 1 - i) % 2) (x % 2)) (bit_above b count i k)
+digit_at_place count a b i d h above (inr k) =
+    let front = digits_by count (a / 2) (b / 2) in
+    let last = digit_by (a % 2) (b % 2) ∷ [] in
+    let none : suc count - 1 - i ≡ 0 = omega (arith, h, k) in
+    let first : i - count ≡ 0 = omega (arith, h, k) in
+    get_or-append_right front last count i d (length-digits_by count (a / 2) (b / 2)) k
+    ∙ ap (λ j. get_or last j d) first
+    ∙ ap (λ x. digit_by (x % 2) (b % 2)) (bit_last a count i none)
+    ∙ ap (λ x. digit_by (a / 2 ^ (suc count - 1 - i) % 2) (x % 2)) (bit_last b count i none)
+
+get-digits_by : (count a b i : ℕ) (d : Digit) → i < count → get_or (digits_by count a b) i d ≡ digit_by (a / 2 ^ (count - 1 - i) % 2) (b / 2 ^ (count - 1 - i) % 2)
+get-digits_by zero a b i d h = absurd (omega (arith, h))
+get-digits_by (suc count) a b i d h = digit_at_place count a b i d h (get-digits_by count (a / 2) (b / 2) i d) (cases_lt i count)
+
+pub slice_get-digits_by : (count a b i : ℕ) → i < count → slice_get (digits_by count a b) i ≡ Some (digit_by (a / 2 ^ (count - 1 - i) % 2) (b / 2 ^ (count - 1 - i) % 2))
+slice_get-digits_by count a b i h =
+    slice_get-get_or (digits_by count a b) i Zero (rw (length-digits_by count a b) h) ∙ ap Some (get-digits_by count a b i Zero h)
+
+-- ---- binary digits of a text
+
+pub digit-binary : (byte : ℕ) → 48 ≤ byte → byte ≤ 49 → digit byte ≡ Some (digit_by (byte - 48) 0)
+digit-binary byte h k = grind (arith, nat_tests)
+
+-- one digit more of a number
+pub binary_more : (count n byte : ℕ) → 48 ≤ byte → byte ≤ 49 → digits_by (suc count) (n * 2 + (byte - 48)) 0 ≡ digits_by count n 0 ++ digit_by (byte - 48) 0 ∷ []
+binary_more count n byte h k = digits_by-push count n 0 (byte - 48) 0 (omega (arith, h, k)) (omega arith)
+
+pub binary_is : (count a b : ℕ) → b ≡ 0 → 0 < count → a < 2 ^ count → IsBinary (digits_by count a b) a
+binary_is count a b e h k =
+    let count_is : length (digits_by count a b) ≡ count = length-digits_by count a b in
+    record {
+      same = ap (digits_by count a) e ∙ ap (λ n. digits_by n a 0) (sym count_is);
+      below = rw count_is k;
+      some = rw count_is h;
+    }
+
+is_low : (byte : ℕ) → (nat_le 48 byte && nat_le byte 49) ≡ true → 48 ≤ byte
+is_low byte e = grind (arith, nat_tests)
+
+is_high : (byte : ℕ) → (nat_le 48 byte && nat_le byte 49) ≡ true → byte ≤ 49
+is_high byte e = grind (arith, nat_tests)
+
+-- the digits so far, and those of the rest, with one byte more read
+pub binary_step : (bytes : List ℕ) (i n bit : ℕ) → i < length bytes → (nat_le 48 (get_or bytes i 0) && nat_le (get_or bytes i 0) 49) ≡ true → bit ≡ get_or bytes i 0 - 48 → n < 2 ^ i
+    → with_front (digits_by i n 0) (digits (drop i bytes)) ≡ digits bytes
+    → (n * 2 + bit < 2 ^ (i + 1)) × (with_front (digits_by (i + 1) (n * 2 + bit) 0) (digits (drop (i + 1) bytes)) ≡ digits bytes)
+binary_step bytes i n bit inside test is below so_far =
+    let byte = get_or bytes i 0 in
+    let low : 48 ≤ byte = is_low byte test in
+    let high : byte ≤ 49 = is_high byte test in
+    let next : i + 1 ≡ suc i = omega arith in
+    let twice : 2 ^ suc i ≡ 2 * 2 ^ i = pow-succ' 2 i in
+    let split : drop i bytes ≡ byte ∷ drop (suc i) bytes = drop-cons bytes i 0 inside in
+    let one : digits (byte ∷ []) ≡ Some (digit_by (byte - 48) 0 ∷ []) = ap (λ d. with_digit d (Some [])) (digit-binary byte low high) in
+    rw (next, is) (
+      omega (arith, twice, below, low, high),
+      front_more bytes (byte ∷ []) (drop (suc i) bytes) (drop i bytes) (digits_by i n 0) (digits_by (suc i) (n * 2 + (byte - 48)) 0) (digit_by (byte - 48) 0 ∷ []) split so_far one (binary_more i n byte low high),
+    )
