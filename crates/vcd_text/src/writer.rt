@@ -4,9 +4,9 @@ ghost use Rattle.std.specs.List.{flat_map};
 ghost use Rattle.std.specs.Option.{option_map};
 ghost use Rattle.xif_base.specs.Params.{IsInRange};
 ghost use Rattle.xif_signals.specs.declared.bus.Bus.{Bus};
-ghost use Rattle.xif_signals.specs.Signal.{width_of};
+ghost use Rattle.xif_signals.specs.Signal.{code_of, width_of};
 ghost use Rattle.xif_signals.specs.Bus.{FitsWidths, sample_of};
-ghost use Rattle.vcd_text.specs.Written.{wires, is_same, var_line, changed_line, header_text, cycle_text, end_text, vcd_text_of};
+ghost use Rattle.vcd_text.specs.Written.{wires, value_in, is_same, var_line, change_line, changed_line, header_text, cycle_text, end_text, vcd_text_of};
 ghost use Rattle.vcd_text.specs.Writing.{begun, Wrote};
 
 use crate::lines::{put_change, put_edge, put_variable};
@@ -208,6 +208,25 @@ fn put_changed(
     if has_same(last, bus, signal) {
         return Ok(());
     }
+    put_value(text, params, bus, signal)
+}
+
+/// The line of one signal, where it is there.
+#[inline(never)]
+fn put_value(
+    text: &mut Vec<u8>,
+    params: &Params,
+    bus: &Bus,
+    signal: Signal,
+) -> Result<(), NoMemory>
+    requires params { IsInRange params.now }
+    requires fits { FitsWidths params.now bus.now }
+    ensures ok { OnOk result (text.new.items
+        ≡ text.old.items ++ (if nat_lt 0 (width_of signal params.now)
+        then change_line (width_of signal params.now) (code_of signal)
+        (value_in (sample_of bus.now) signal) else [])) }
+    ensures err { OnErr result (text.new.items ≡ text.old.items) }
+{
     let width = signal.width(params);
     if width == 0 {
         return Ok(());
