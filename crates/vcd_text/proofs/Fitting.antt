@@ -46,8 +46,11 @@ bus_fits p b f ResultData = f.result_data
 bus_fits p b f ResultRd = f.result_rd
 bus_fits p b f ResultWe = f.result_we
 
-pub value_fits : (p : Params) (b : Bus) (s : Signal) (v w : ℕ) → FitsWidths p b → v ≡ value_in (sample_of b) s → w ≡ width_of s p → v < 2 ^ w
-value_fits p b s v w f e k = subst (λ n. v < 2 ^ n) (sym k) (subst (λ n. n < 2 ^ width_of s p) (sym e) (bus_fits p b f s))
+pub sample_fits : (p : Params) (b : Bus) (q : List Quad) → q ≡ sample_of b → FitsWidths p b → Fits p q
+sample_fits p b q e f = subst (Fits p) (sym e) (bus_fits p b f)
+
+pub value_fits : (p : Params) (q : List Quad) (s : Signal) (v w : ℕ) → Fits p q → v ≡ value_in q s → w ≡ width_of s p → v < 2 ^ w
+value_fits p q s v w f e k = subst (λ n. v < 2 ^ n) (sym k) (subst (λ n. n < 2 ^ width_of s p) (sym e) (f s))
 
 -- ---- the signals that are there
 

@@ -4,6 +4,7 @@ use Rattle.std.specs.Prelude.{nat_lt, OnOk}
 use Rattle.std.specs.Result.{is_err}
 use Rattle.std.proofs.lemmas.Bool.Decides.{nat_tests}
 use Rattle.std.proofs.lemmas.Bool.{eqb-true}
+use Rattle.xif_signals.specs.declared.sample.Quad.{Quad}
 use Rattle.xif_signals.specs.declared.signal.Signal.{Signal}
 use Rattle.xif_signals.specs.Signal.{width_of}
 use Rattle.std.specs.List.{flat_map}
@@ -125,11 +126,13 @@ edge_at o o1 n clock e =
     e ∙ ap (λ t. o ++ (time_line t ++ clock_line clock)) same
 
 -- a text that ends with the last lines that were written goes on with those of a cycle
-pub wrote_behind : (w : Progress) (b : Bus) (buses : List Bus) (front old new : List ℕ) → new ≡ old ++ cycle_text w.params w.cycles w.last (sample_of b) → Wrote w buses (front ++ old) → Wrote (record { params = w.params; cycles = w.cycles + 1; last = Some (sample_of b) }) (buses ++ b ∷ []) (front ++ new)
-wrote_behind w b buses front old new e h =
+pub wrote_behind : (w : Progress) (b : Bus) (q : List Quad) (buses : List Bus) (front old new : List ℕ) → q ≡ sample_of b → new ≡ old ++ cycle_text w.params w.cycles w.last q → Wrote w buses (front ++ old) → Wrote (record { params = w.params; cycles = w.cycles + 1; last = Some q }) (buses ++ b ∷ []) (front ++ new)
+wrote_behind w b q buses front old new same e h =
     let piece = cycle_text w.params w.cycles w.last (sample_of b) in
-    subst (λ t. Wrote (record { params = w.params; cycles = w.cycles + 1; last = Some (sample_of b) }) (buses ++ b ∷ []) t) (append_assoc front old piece ∙ ap (λ t. front ++ t) (sym e))
-    (wrote_cycle w b buses (front ++ old) piece refl h)
+    let whole : new ≡ old ++ piece = e ∙ ap (λ x. old ++ cycle_text w.params w.cycles w.last x) same in
+    subst (λ x. Wrote (record { params = w.params; cycles = w.cycles + 1; last = Some x }) (buses ++ b ∷ []) (front ++ new)) (sym same)
+    (subst (λ t. Wrote (record { params = w.params; cycles = w.cycles + 1; last = Some (sample_of b) }) (buses ++ b ∷ []) t) (append_assoc front old piece ∙ ap (λ t. front ++ t) (sym whole))
+    (wrote_cycle w b buses (front ++ old) piece refl h))
 
 -- what holds where there is no error
 pub ok_at : {T E P : Type 0} (r : Result T E) → OnOk r P → false ≡ is_err r → P

@@ -1,16 +1,15 @@
 //! The text of a list of buses, cycle by cycle.
 ghost use Rattle.std.specs.Prelude.{◌≡◌, ◌≢◌, ◌<◌, ◌≤◌, ◌^◌, ◌+◌, ◌++◌, ◌∷◌, [], ℕ, List, IfOk, OnOk, OnErr, length, take, option_copied, nat_lt, if◌then◌else◌};
 ghost use Rattle.std.specs.List.{flat_map};
-ghost use Rattle.std.specs.Option.{option_map};
 ghost use Rattle.xif_base.specs.Params.{IsInRange};
 ghost use Rattle.xif_signals.specs.declared.bus.Bus.{Bus};
 ghost use Rattle.xif_signals.specs.Signal.{code_of, width_of};
-ghost use Rattle.xif_signals.specs.Bus.{FitsWidths, sample_of};
+ghost use Rattle.xif_signals.specs.Bus.{FitsWidths};
 ghost use Rattle.vcd_text.specs.Written.{wires, value_in, is_same, var_line, change_line, changed_line, header_text, cycle_text, end_text, vcd_text_of};
-ghost use Rattle.vcd_text.specs.Writing.{begun, Wrote};
+ghost use Rattle.vcd_text.specs.Writing.{begun, Wrote, Fits};
 
 use crate::lines::{put_change, put_edge, put_variable};
-use crate::value::value_on;
+use crate::value::Values;
 use std::alloc::Global;
 use std::marker::Model;
 use xif_base::{NoMemory, Params};
@@ -25,19 +24,17 @@ const CYCLE_CAPACITY: usize = 512;
 pub struct Writer {
     params: Params,
     cycles: u64,
-    last: Option<Bus>,
+    last: Option<Values>,
 }
 
 impl Model for Writer {
     ghost use Rattle.std.specs.Prelude.{◌≤◌, ◌^◌};
-    ghost use Rattle.std.specs.Option.{option_map};
     ghost use Rattle.xif_base.specs.Params.{IsInRange};
-    ghost use Rattle.xif_signals.specs.Bus.{sample_of};
     ghost use Rattle.vcd_text.specs.Writing.{Progress};
 
     ghost Value = { Progress };
 
-    ghost view = { λ w. record { params = w.params; cycles = w.cycles; last = option_map sample_of w.last } };
+    ghost view = { λ w. record { params = w.params; cycles = w.cycles; last = w.last } };
 
     ghost invariant = { λ w. IsInRange w.params × (w.cycles ≤ 2 ^ 60) };
 }
@@ -99,12 +96,13 @@ impl Writer {
     {
         let length = text.len();
         let last = self.last.as_ref();
-        if put_cycle(text, &self.params, self.cycles, last, bus).is_err() {
+        let values = Values::of(bus);
+        if put_cycle(text, &self.params, self.cycles, last, &values).is_err() {
             text.truncate(length);
             return Err(NoMemory);
         }
         self.cycles += 1;
-        self.last = Some(*bus);
+        self.last = Some(values);
         Ok(())
     }
 
@@ -149,41 +147,40 @@ fn put_cycle(
     text: &mut Vec<u8>,
     params: &Params,
     cycle: u64,
-    last: Option<&Bus>,
-    bus: &Bus,
+    last: Option<&Values>,
+    values: &Values,
 ) -> Result<(), NoMemory>
     requires params { IsInRange params.now }
-    requires fits { FitsWidths params.now bus.now }
+    requires fits { Fits params.now values.now }
     requires room { cycle < 2 ^ 60 }
     ensures ok { OnOk result (text.new.items ≡ text.old.items
-        ++ cycle_text params.now cycle (option_map sample_of (option_copied last.entry))
-        (sample_of bus.now)) }
+        ++ cycle_text params.now cycle (option_copied last.entry) values.now) }
     // Where memory runs out, some of the lines may stand behind the text.
     ensures err { OnErr result
         (take (length text.old.items) text.new.items ≡ text.old.items) }
 {
     put_edge(text, cycle, 0, 0)?;
-    put_changes(text, params, last, bus, &Signal::all()[1..])?;
+    put_changes(text, params, last, values, &Signal::all()[1..])?;
     put_edge(text, cycle, 5, 1)
 }
 
 fn put_changes(
     text: &mut Vec<u8>,
     params: &Params,
-    last: Option<&Bus>,
-    bus: &Bus,
+    last: Option<&Values>,
+    values: &Values,
     signals: &[Signal],
 ) -> Result<(), NoMemory>
     requires params { IsInRange params.now }
-    requires fits { FitsWidths params.now bus.now }
+    requires fits { Fits params.now values.now }
     ensures ok { OnOk result (text.new.items ≡ text.old.items
-        ++ flat_map (changed_line params.now (option_map sample_of (option_copied last.entry))
-        (sample_of bus.now)) (wires params.now signals.now)) }
+        ++ flat_map (changed_line params.now (option_copied last.entry) values.now)
+        (wires params.now signals.now)) }
     ensures err { OnErr result
         (take (length text.old.items) text.new.items ≡ text.old.items) }
 {
     for signal in signals {
-        put_changed(text, params, last, bus, *signal)?;
+        put_changed(text, params, last, values, *signal)?;
     }
     Ok(())
 }
@@ -193,22 +190,21 @@ fn put_changes(
 fn put_changed(
     text: &mut Vec<u8>,
     params: &Params,
-    last: Option<&Bus>,
-    bus: &Bus,
+    last: Option<&Values>,
+    values: &Values,
     signal: Signal,
 ) -> Result<(), NoMemory>
     requires params { IsInRange params.now }
-    requires fits { FitsWidths params.now bus.now }
+    requires fits { Fits params.now values.now }
     ensures ok { OnOk result (text.new.items
         ≡ text.old.items ++ (if nat_lt 0 (width_of signal params.now)
-        then changed_line params.now (option_map sample_of (option_copied last.entry))
-        (sample_of bus.now) signal else [])) }
+        then changed_line params.now (option_copied last.entry) values.now signal else [])) }
     ensures err { OnErr result (text.new.items ≡ text.old.items) }
 {
-    if has_same(last, bus, signal) {
+    if has_same(last, values, signal) {
         return Ok(());
     }
-    put_value(text, params, bus, signal)
+    put_value(text, params, values, signal)
 }
 
 /// The line of one signal, where it is there.
@@ -216,32 +212,31 @@ fn put_changed(
 fn put_value(
     text: &mut Vec<u8>,
     params: &Params,
-    bus: &Bus,
+    values: &Values,
     signal: Signal,
 ) -> Result<(), NoMemory>
     requires params { IsInRange params.now }
-    requires fits { FitsWidths params.now bus.now }
+    requires fits { Fits params.now values.now }
     ensures ok { OnOk result (text.new.items
         ≡ text.old.items ++ (if nat_lt 0 (width_of signal params.now)
         then change_line (width_of signal params.now) (code_of signal)
-        (value_in (sample_of bus.now) signal) else [])) }
+        (value_in values.now signal) else [])) }
     ensures err { OnErr result (text.new.items ≡ text.old.items) }
 {
     let width = signal.width(params);
     if width == 0 {
         return Ok(());
     }
-    put_change(text, width, signal.code(), value_on(bus, signal))
+    put_change(text, width, signal.code(), values.get(signal))
 }
 
 /// Whether a signal has the value that it had in the last cycle.
 #[inline(always)]
-fn has_same(last: Option<&Bus>, bus: &Bus, signal: Signal) -> bool
-    ensures { result ≡ is_same (option_map sample_of (option_copied last.entry))
-        (sample_of bus.now) signal }
+fn has_same(last: Option<&Values>, values: &Values, signal: Signal) -> bool
+    ensures { result ≡ is_same (option_copied last.entry) values.now signal }
 {
     match last {
-        Some(last) => value_on(last, signal) == value_on(bus, signal),
+        Some(last) => last.get(signal) == values.get(signal),
         None => false,
     }
 }

@@ -1,6 +1,4 @@
 use Rattle.std.specs.Prelude.{option_copied}
-use Rattle.std.specs.Option.{option_map}
-use Rattle.xif_signals.specs.Bus.{sample_of}
 use Rattle.xif_signals.specs.declared.signal.Signal.TheVariants.{Clk}
 use Rattle.vcd_text.specs.Written.{changed_line}
 use Rattle.vcd_text.proofs.Pieces.{wire_step, front_more}
@@ -8,7 +6,7 @@ use Rattle.vcd_text.proofs.writer.put_changes.Goals as goal
 
 pub loop-signal-preserved : goal.loop-signal-preserved
 loop-signal-preserved c = (
-  wire_step (changed_line c.args.params.now (option_map sample_of (option_copied c.args.last)) (sample_of c.args.bus.now)) c.args.params.now c.args.signals.now c.loop-signal.signal-index Clk
+  wire_step (changed_line c.args.params.now (option_copied c.args.last) c.args.values.now) c.args.params.now c.args.signals.now c.loop-signal.signal-index Clk
       c.loop-signal.text.items _ _ c.loop-signal-test.true c.in_ok-put_changed.ensures.ok c.loop-signal.invariant.0,
   front_more c.args.text.now.items c.loop-signal.text.items _ _ c.in_ok-put_changed.ensures.ok c.loop-signal.invariant.1,
 )
