@@ -1,4 +1,4 @@
-use Rattle.std.proofs.Common.{◌++◌, ◌∷◌, [], refl, sym, ap, ◌∙◌, append_assoc}
+use Rattle.std.proofs.Common.{◌++◌, ◌∷◌, [], sym, ap, ◌∙◌, append_assoc}
 use Rattle.vcd_text.specs.Written.{numeral}
 use Rattle.vcd_text.proofs.Pieces.{marked}
 use Rattle.vcd_text.proofs.lines.put_bits.Goals as goal

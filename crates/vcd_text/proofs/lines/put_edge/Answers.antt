@@ -1,4 +1,4 @@
-use Rattle.std.proofs.Common.{◌++◌, refl, sym, ap, ◌∙◌}
+use Rattle.std.proofs.Common.{◌++◌, sym, ap, ◌∙◌}
 use Rattle.vcd_text.proofs.Pieces.{marked, edge_lines}
 use Rattle.vcd_text.proofs.lines.put_edge.Goals as goal
 

@@ -1,4 +1,4 @@
-use Rattle.std.proofs.Common.{◌≡◌, ◌≤◌, ◌-◌, ◌%◌, ◌+◌, length, set, ◌∙◌, arith}
+use Rattle.std.proofs.Common.{◌≡◌, ◌-◌, ◌%◌, ◌+◌, length, set, ◌∙◌, arith}
 use Rattle.vcd_text.proofs.Pieces.{digit_before}
 use Rattle.vcd_text.proofs.numeral.digits_before.Goals as goal
 
