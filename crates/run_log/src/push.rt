@@ -1,6 +1,6 @@
 //! Numbers and lines, appended to a text. They are written as the formatter writes them, in fewer
 //! steps.
-ghost use Rattle.std.specs.Prelude.{◌≡◌, ◌<◌, OnOk, IsAscii, false};
+ghost use Rattle.std.specs.Prelude.{◌≡◌, ◌<◌, ◌++◌, OnOk, IsAscii, codes, false};
 ghost use Rattle.std.specs.Fmt.{decimal, digit_glyph};
 ghost use Rattle.run_log.specs.Growth.{Appends};
 ghost use Rattle.run_log.specs.Words.{hex_word};
@@ -30,32 +30,22 @@ fn push_words(text: &mut String, line: Line) -> Result<(), AllocError>
         Line::Retire { pc, word } => {
             text.push_str("retire ")?;
             push_word(text, pc)?;
-            text.push_str(" ")?;
-            push_word(text, word)
+            push_last_word(text, word)
         }
         Line::Write { register, value } => {
             text.push_str("write x")?;
             push_number(text, u64::from(register))?;
-            text.push_str(" ")?;
-            push_word(text, value)
+            push_last_word(text, value)
         }
         Line::Store {
             address,
             width,
             value,
-        } => {
-            text.push_str("store ")?;
-            push_word(text, address)?;
-            text.push_str(" ")?;
-            push_number(text, u64::from(width))?;
-            text.push_str(" ")?;
-            push_word(text, value)
-        }
+        } => push_stored(text, address, width, value),
         Line::Cut { keep, target } => {
             text.push_str("cut ")?;
             push_number(text, u64::from(keep))?;
-            text.push_str(" ")?;
-            push_word(text, target)
+            push_last_word(text, target)
         }
         Line::Dispatch { pc, word } => {
             text.push_str("dispatch ")?;
@@ -70,10 +60,28 @@ fn push_words(text: &mut String, line: Line) -> Result<(), AllocError>
         Line::Stop { cause, pc } => {
             text.push_str("stop ")?;
             text.push_str(cause_word(cause))?;
-            text.push_str(" ")?;
-            push_word(text, pc)
+            push_last_word(text, pc)
         }
     }
+}
+
+/// Appends what the line of a store tells.
+fn push_stored(text: &mut String, address: u32, width: u8, value: u32) -> Result<(), AllocError>
+    ensures { OnOk result (Appends text.old text.new (line_words (Line.Store address width value))) }
+{
+    text.push_str("store ")?;
+    push_word(text, address)?;
+    text.push_str(" ")?;
+    push_number(text, u64::from(width))?;
+    push_last_word(text, value)
+}
+
+/// Appends a word of 32 bits behind a space.
+fn push_last_word(text: &mut String, word: u32) -> Result<(), AllocError>
+    ensures { OnOk result (Appends text.old text.new (codes " " ++ hex_word word)) }
+{
+    text.push_str(" ")?;
+    push_word(text, word)
 }
 
 /// Appends the word of a dispatched instruction, or that there is none.

@@ -59,12 +59,7 @@ impl TraceFile {
     }
 
     /// Writes the next cycle.
-    pub fn cycle<S: Shelf>(
-        &mut self,
-        shelf: &mut S,
-        name: &str,
-        bus: &Bus,
-    ) -> Result<(), WriteFail>
+    pub fn cycle<S: Shelf>(&mut self, shelf: &mut S, name: &str, bus: &Bus) -> Result<(), WriteFail>
         requires room { (self.old).writer.cycles < 2 ^ 60 }
         requires fits { FitsWidths (self.old).writer.params bus.now }
         ensures params { (self.new).writer.params ≡ (self.old).writer.params }

@@ -1,5 +1,6 @@
 -- The signals of the table, and that each one's value fits its width.
-use Rattle.std.proofs.Common.{◌≡◌, ◌<◌, ◌^◌, ℕ, Bool, true, false, List, subst, ap, sym, lit<, take, drop}
+use Rattle.std.proofs.Common.{◌≡◌, ◌<◌, ◌^◌, ℕ, zero, suc, Bool, true, false, List, [], ◌∷◌, length, get_or, subst, ap, sym, arith, lit<, take, drop}
+use Rattle.std.specs.List.{AllByRecursion}
 use Rattle.xif_base.specs.declared.params.Params.{Params}
 use Rattle.xif_signals.specs.declared.bus.Bus.{Bus}
 use Rattle.xif_signals.specs.declared.sample.Quad.{Quad}
@@ -50,6 +51,12 @@ sample_fits p b q e f = subst (Fits p) (sym e) (bus_fits p b f)
 
 pub value_fits : (p : Params) (q : List Quad) (s : Signal) (v w : ℕ) → Fits p q → v ≡ value_in q s → w ≡ width_of s p → v < 2 ^ w
 value_fits p q s v w f e k = subst (λ n. v < 2 ^ n) (sym k) (subst (λ n. n < 2 ^ width_of s p) (sym e) (f s))
+
+-- what holds of each holds of one
+pub each_at : (P : Signal → Type 0) (ss : List Signal) (i : ℕ) (d : Signal) → AllByRecursion P ss → i < length ss → P (get_or ss i d)
+each_at P [] i d h l = absurd (omega arith)
+each_at P (s ∷ ss) zero d h l = h.0
+each_at P (s ∷ ss) (suc i) d h l = each_at P ss i d h.1 (omega arith)
 
 -- ---- the signals that are there
 

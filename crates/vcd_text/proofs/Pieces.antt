@@ -23,7 +23,7 @@ use Rattle.vcd_text.specs.Writing.{Progress, Wrote}
 pub digit_before : (b n start : ℕ) (line goal : List ℕ) → 2 ≤ b → 0 < n → 1 ≤ start → start ≤ length line → n < b ^ (start - 1) → map (λ d. 48 + d) (digits_of b n) ++ drop start line ≡ goal
     → (1 ≤ start - 1) × (length (set line (start - 1) (48 + n % b)) ≡ length line) × (n / b < b ^ (start - 1 - 1)) × (map (λ d. 48 + d) (digits_of b (n / b)) ++ drop (start - 1) (set line (start - 1) (48 + n % b)) ≡ goal)
 digit_before b n zero line goal h k one inside small e = absurd (omega (arith, one))
-digit_before b n (suc zero) line goal h k one inside small e = 
+digit_before b n (suc zero) line goal h k one inside small e =
     let none : b ^ (suc zero - 1) ≡ 1 = pow-zero b in
     absurd (omega (arith, k, subst (λ m. n < m) none small))
 digit_before b n (suc (suc j)) line goal h k one inside small e =

@@ -51,12 +51,7 @@ fn put_decimal(text: &mut Vec<u8>, n: u8) -> Result<(), NoMemory>
 }
 
 /// A time, which is ten times a number and a digit, and the clock's value from then on.
-pub(crate) fn put_edge(
-    text: &mut Vec<u8>,
-    tens: u64,
-    digit: u8,
-    clock: u8,
-) -> Result<(), NoMemory>
+pub(crate) fn put_edge(text: &mut Vec<u8>, tens: u64, digit: u8, clock: u8) -> Result<(), NoMemory>
     requires tens { tens < 10 ^ 19 }
     requires digit { digit < 10 }
     requires clock { clock < 2 }

@@ -1,5 +1,6 @@
 //! The values of the signals in a cycle.
-ghost use Rattle.std.specs.Prelude.{◌≡◌};
+ghost use Rattle.std.specs.Prelude.{◌≡◌, ◌≢◌};
+ghost use Rattle.xif_signals.specs.declared.signal.Signal.TheVariants.{Clk};
 ghost use Rattle.xif_signals.specs.Bus.{sample_of};
 ghost use Rattle.vcd_text.specs.Written.{value_in};
 
@@ -61,11 +62,12 @@ impl Values {
         }
     }
 
-    /// The value of a signal. There is none of the clock: it reads as the reset does.
+    /// The value of a signal other than the clock.
     #[inline(always)]
     pub(crate) fn get(&self, signal: Signal) -> u64
+        requires { signal ≢ Clk }
         ensures { result ≡ value_in self.now signal }
     {
-        self.numbers[usize::from(signal.number()).saturating_sub(1)]
+        self.numbers[usize::from(signal.number()) - 1]
     }
 }

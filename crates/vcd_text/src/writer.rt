@@ -1,7 +1,8 @@
 //! The text of a list of buses, cycle by cycle.
 ghost use Rattle.std.specs.Prelude.{◌≡◌, ◌≢◌, ◌<◌, ◌≤◌, ◌^◌, ◌+◌, ◌++◌, ◌∷◌, [], ℕ, List, IfOk, OnOk, OnErr, length, take, option_copied, nat_lt, if◌then◌else◌};
-ghost use Rattle.std.specs.List.{flat_map};
+ghost use Rattle.std.specs.List.{flat_map, AllByRecursion};
 ghost use Rattle.xif_base.specs.Params.{IsInRange};
+ghost use Rattle.xif_signals.specs.declared.signal.Signal.TheVariants.{Clk};
 ghost use Rattle.xif_signals.specs.declared.bus.Bus.{Bus};
 ghost use Rattle.xif_signals.specs.Signal.{code_of, width_of};
 ghost use Rattle.xif_signals.specs.Bus.{FitsWidths};
@@ -173,6 +174,7 @@ fn put_changes(
 ) -> Result<(), NoMemory>
     requires params { IsInRange params.now }
     requires fits { Fits params.now values.now }
+    requires signals { AllByRecursion (λ s. s ≢ Clk) signals.now }
     ensures ok { OnOk result (text.new.items ≡ text.old.items
         ++ flat_map (changed_line params.now (option_copied last.entry) values.now)
         (wires params.now signals.now)) }
@@ -196,6 +198,7 @@ fn put_changed(
 ) -> Result<(), NoMemory>
     requires params { IsInRange params.now }
     requires fits { Fits params.now values.now }
+    requires signal { signal ≢ Clk }
     ensures ok { OnOk result (text.new.items
         ≡ text.old.items ++ (if nat_lt 0 (width_of signal params.now)
         then changed_line params.now (option_copied last.entry) values.now signal else [])) }
@@ -217,6 +220,7 @@ fn put_value(
 ) -> Result<(), NoMemory>
     requires params { IsInRange params.now }
     requires fits { Fits params.now values.now }
+    requires signal { signal ≢ Clk }
     ensures ok { OnOk result (text.new.items
         ≡ text.old.items ++ (if nat_lt 0 (width_of signal params.now)
         then change_line (width_of signal params.now) (code_of signal)
@@ -233,6 +237,7 @@ fn put_value(
 /// Whether a signal has the value that it had in the last cycle.
 #[inline(always)]
 fn has_same(last: Option<&Values>, values: &Values, signal: Signal) -> bool
+    requires { signal ≢ Clk }
     ensures { result ≡ is_same (option_copied last.entry) values.now signal }
 {
     match last {

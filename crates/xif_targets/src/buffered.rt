@@ -57,11 +57,7 @@ pub fn append_text<S: Shelf>(
 }
 
 /// Sends what is pending to a file once it is so much that this is worth a call of the shelf.
-pub fn send_full<S: Shelf>(
-    shelf: &mut S,
-    name: &str,
-    buffer: &mut Vec<u8>,
-) -> Result<(), WriteFail>
+pub fn send_full<S: Shelf>(shelf: &mut S, name: &str, buffer: &mut Vec<u8>) -> Result<(), WriteFail>
     ensures growing { OnOk result ((before : Option Files) → (bytes : List ℕ) →
         IsGrowing before (S.files shelf.old) name.now buffer.old.items bytes
         → IsGrowing before (S.files shelf.new) name.now buffer.new.items bytes) }
