@@ -44,6 +44,18 @@ cycle-part before now name w p buses more bus text same wrote part =
     (subst (λ q. IsWrittenInPart before now name (trace_text q ((buses ++ bus ∷ []) ++ more))) same
     (part-whole before now name w (buses ++ bus ∷ []) more text wrote part))
 
+-- the next cycle is put behind what is pending
+pub cycle-pending : (before now : Option Files) (name : List ℕ) (t : Tracing) (w : Progress) (pending : List ℕ) (buses : List Bus) (bus : Bus)
+    → ((bs : List Bus) (front : List ℕ) → Wrote t.writer bs (front ++ t.pending) → Wrote w (bs ++ bus ∷ []) (front ++ pending))
+    → IsTracing before now name t buses → IsTracing before now name (record { writer = w; pending = pending }) (buses ++ bus ∷ [])
+cycle-pending before now name t w pending buses bus goes_on tracing =
+    let sent = tracing.is_growing.sent in
+    record {
+      text = sent ++ pending;
+      is_growing = record { sent = sent; all = refl; is_sent = tracing.is_growing.is_sent };
+      wrote = goes_on buses sent (subst (Wrote t.writer buses) tracing.is_growing.all tracing.wrote);
+    }
+
 -- where the end is written, the text is whole
 pub end-whole : (w : Progress) (buses : List Bus) (text piece : List ℕ) → text ++ piece ≡ vcd_text_of w.params buses → text ++ piece ≡ trace_text w.params buses
 unfolding trace_text

@@ -12,7 +12,7 @@ use std::marker::Model;
 use vcd_text::Writer;
 use xif_base::{NoMemory, Params, Shelf, WriteFail};
 use xif_signals::Bus;
-use xif_targets::{append_text, end_file, start_file};
+use xif_targets::{append_text, end_file, send_full, start_file};
 
 /// A waveform (IEEE 1364-2005, clause 18) that is written to a file cycle by cycle. The name of the
 /// file is given with each call.
@@ -59,13 +59,7 @@ impl TraceFile {
     }
 
     /// Writes the next cycle.
-    pub fn cycle<S: Shelf>(
-        &mut self,
-        alloc: Global,
-        shelf: &mut S,
-        name: &str,
-        bus: &Bus,
-    ) -> Result<(), WriteFail>
+    pub fn cycle<S: Shelf>(&mut self, shelf: &mut S, name: &str, bus: &Bus) -> Result<(), WriteFail>
         requires room { (self.old).writer.cycles < 2 ^ 60 }
         requires fits { FitsWidths (self.old).writer.params bus.now }
         ensures params { (self.new).writer.params ≡ (self.old).writer.params }
@@ -83,8 +77,10 @@ impl TraceFile {
             IsTracing before (S.files shelf.old) name.now self.old buses
             → IsCountedFail S.fetch_faults S.write_faults S.faultless shelf.old shelf.new fail) }
     {
-        let piece = or_fail(self.writer.cycle(alloc, bus))?;
-        append_text(shelf, name, &mut self.pending, &piece)
+        if self.writer.cycle_onto(&mut self.pending, bus).is_err() {
+            return Err(WriteFail::NoMemory);
+        }
+        send_full(shelf, name, &mut self.pending)
     }
 
     /// Ends the text behind the cycles so far.

@@ -70,7 +70,7 @@ pub fn run_traced<S: Shelf, P: Predictor>(
         counts: Counts::none(),
     };
     while let Some((bus, log)) = simulation.next_cycle(predictor) {
-        texts.tell(alloc, shelf, name, &bus, &log)?;
+        texts.tell(shelf, name, &bus, &log)?;
     }
     texts.trace.end(alloc, shelf, name)?;
     Ok(Traced {
@@ -92,7 +92,6 @@ impl Texts {
     /// A cycle goes into both texts and into the counts.
     fn tell<S: Shelf>(
         &mut self,
-        alloc: Global,
         shelf: &mut S,
         name: &str,
         bus: &Bus,
@@ -125,6 +124,6 @@ impl Texts {
             return Err(WriteFail::NoMemory);
         }
         self.counts = self.counts.with(log);
-        self.trace.cycle(alloc, shelf, name, bus)
+        self.trace.cycle(shelf, name, bus)
     }
 }

@@ -7,8 +7,8 @@ use Rattle.xif_signals.specs.declared.sample.Quad.{Quad}
 use Rattle.xif_signals.specs.declared.signal.Signal.{Signal}
 use Rattle.xif_signals.specs.declared.signal.Signal.TheVariants.{Clk, RstN, IssueValid, IssueReady, IssueHartid, IssueId, IssueInstr, IssueAccept, IssueWriteback, IssueRegisterRead, RegisterValid, RegisterReady, RegisterHartid, RegisterId, RegisterRs0, RegisterRs1, RegisterRs2, RegisterRsValid, CommitValid, CommitHartid, CommitId, CommitKill, ResultValid, ResultReady, ResultHartid, ResultId, ResultData, ResultRd, ResultWe}
 use Rattle.xif_signals.specs.Bus.{bit, sample_of, FitsWidths}
-use Rattle.xif_signals.specs.Signal.{signals}
-use Rattle.vcd_text.specs.Written.{wires, wires_of, data_wires_of}
+use Rattle.xif_signals.specs.Signal.{signals, width_of}
+use Rattle.vcd_text.specs.Written.{wires, wires_of, data_wires_of, value_in}
 use Rattle.vcd_text.specs.Writing.{Fits}
 
 bit_fits : (b : Bool) → bit b < 2 ^ 1
@@ -48,6 +48,9 @@ bus_fits p b f ResultWe = f.result_we
 
 pub sample_fits : (p : Params) (b : Bus) (q : List Quad) → q ≡ sample_of b → FitsWidths p b → Fits p q
 sample_fits p b q e f = subst (Fits p) (sym e) (bus_fits p b f)
+
+pub value_fits : (p : Params) (q : List Quad) (s : Signal) (v w : ℕ) → Fits p q → v ≡ value_in q s → w ≡ width_of s p → v < 2 ^ w
+value_fits p q s v w f e k = subst (λ n. v < 2 ^ n) (sym k) (subst (λ n. n < 2 ^ width_of s p) (sym e) (f s))
 
 -- what holds of each holds of one
 pub each_at : (P : Signal → Type 0) (ss : List Signal) (i : ℕ) (d : Signal) → AllByRecursion P ss → i < length ss → P (get_or ss i d)

@@ -28,6 +28,7 @@ mod item;
 mod keyword;
 mod laws;
 mod lines;
+mod numeral;
 mod read_back;
 mod reader;
 mod scanner;
@@ -38,6 +39,7 @@ mod state;
 mod step;
 mod stop;
 mod token;
+mod value;
 mod word;
 mod writer;
 

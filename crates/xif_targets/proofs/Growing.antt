@@ -1,8 +1,9 @@
 -- Files that grow by pieces.
-use Rattle.std.proofs.Common.{◌≡◌, ◌⊎◌, ◌≤◌, ◌+◌, ◌-◌, ℕ, suc, Bool, true, false, cond, List, [], ◌∷◌, ◌++◌, length, take, drop, Option, Some, None, arith, refl, sym, ap, subst, ◌∙◌, append_assoc, append-nil}
+use Rattle.std.proofs.Common.{◌≡◌, ◌⊎◌, ◌≤◌, ◌+◌, ◌-◌, ℕ, suc, Bool, true, false, true≢false, cond, List, [], ◌∷◌, ◌++◌, length, take, drop, Option, Some, None, arith, refl, sym, ap, subst, ◌∙◌, append_assoc, append-nil}
 use Rattle.std.proofs.Math.Seq.{take-add}
 use Rattle.std.proofs.lemmas.Grind.{common_steps}
 use Rattle.std.specs.Prelude.{if◌then◌else◌, Result, Ok, Err, OnErr, IfErr}
+use Rattle.std.specs.Result.{is_ok, is_err}
 use Rattle.std.specs.Option.{option_map}
 use Rattle.std.specs.Ordering.{nat_cmp, eq_by_cmp}
 use Rattle.std.specs.Cmp.{eq_by_cmp_equiv}
@@ -83,6 +84,16 @@ growing-part before now name pending bytes piece growing =
     let all : bytes ++ piece ≡ growing.sent ++ (pending ++ piece) = ap (λ xs. xs ++ piece) growing.all ∙ append_assoc growing.sent pending piece in
     let none : growing.sent ++ take 0 (pending ++ piece) ≡ growing.sent = append-nil growing.sent in
     rw all (part-of before now name growing.sent (pending ++ piece) 0 (omega arith) (growing.is_sent ∙ ap (λ text. option_map (λ m. insert m name text) before) (sym none)))
+
+-- a piece is put behind what is pending
+pub growing-more : {E : Type 0} (before now : Option Files) (name old new piece bytes : List ℕ) (r : Result (Unit {0}) E) → new ≡ cond (is_ok r) (old ++ piece) old → false ≡ is_err r
+    → IsGrowing before now name old bytes → IsGrowing before now name new (bytes ++ piece)
+growing-more before now name old new piece bytes (Ok x) e ok growing = record {
+  sent = growing.sent;
+  all = ap (λ xs. xs ++ piece) growing.all ∙ append_assoc growing.sent old piece ∙ ap (λ xs. growing.sent ++ xs) (sym e);
+  is_sent = growing.is_sent;
+}
+growing-more before now name old new piece bytes (Err x) e ok growing = absurd (true≢false (sym ok))
 
 module _ {S : Type 0} {fetch_faults write_faults : S → ℕ} {faultless : S → Type 0} {old mid new : S} where
   -- a failure behind calls that counted nothing

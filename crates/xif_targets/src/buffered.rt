@@ -53,6 +53,23 @@ pub fn append_text<S: Shelf>(
     if buffer.extend_from_slice(piece).is_err() {
         return Err(WriteFail::NoMemory);
     }
+    send_full(shelf, name, buffer)
+}
+
+/// Sends what is pending to a file once it is so much that this is worth a call of the shelf.
+pub fn send_full<S: Shelf>(shelf: &mut S, name: &str, buffer: &mut Vec<u8>) -> Result<(), WriteFail>
+    ensures growing { OnOk result ((before : Option Files) → (bytes : List ℕ) →
+        IsGrowing before (S.files shelf.old) name.now buffer.old.items bytes
+        → IsGrowing before (S.files shelf.new) name.now buffer.new.items bytes) }
+    ensures uncounted { OnOk result (IsUncounted S.fetch_faults S.write_faults S.faultless
+        shelf.old shelf.new) }
+    ensures front { OnErr result ((before : Option Files) → (bytes : List ℕ) →
+        IsGrowing before (S.files shelf.old) name.now buffer.old.items bytes
+        → IsWrittenInPart before (S.files shelf.new) name.now bytes) }
+    ensures counted { IfErr result (λ fail. (before : Option Files) → (bytes : List ℕ) →
+        IsGrowing before (S.files shelf.old) name.now buffer.old.items bytes
+        → IsCountedFail S.fetch_faults S.write_faults S.faultless shelf.old shelf.new fail) }
+{
     if buffer.len() < PENDING_LIMIT {
         return Ok(());
     }
