@@ -12,8 +12,8 @@
 //! (`waveform_laws`).
 //!
 //! In `proofs/`, `Jobs` has what holds of each job that is read, `Images` that a memory has bytes,
-//! `Sizes` how long a waveform is at most, `Cycles` how many cycles a run has at most, `Runs` the run
-//! of a job, `Verdicts` what `judge` means behind it, and `Calls` what the two calls print.
+//! `Sizes` how long a waveform is at most, `Cycles` how many cycles a run has at most, `Runs` the
+//! run of a job, `Verdicts` what `judge` means behind it, and `Calls` what the two calls print.
 #![tactic(auto)]
 
 mod laws;

@@ -43,11 +43,6 @@ sizes-pass units lawful =
     let parts = first_failing-parts (size_checks units) (all_entry_checks units) all.1 in
     (all.0, parts.0, parts.1)
 
-pub units-few : (units : List UnitTable) → IsLawful units → length units ≤ 8
-units-few units lawful =
-    let few : nat_le (length units) 8 ≡ true = (sizes-pass units lawful).0 in
-    grind (arith, nat_tests)
-
 pub entries-few : (units : List UnitTable) (i : ℕ) (unit : UnitTable) → IsLawful units → slice_get units i ≡ Some unit → length unit.entries ≤ 32
 entries-few units i unit lawful found = entries-within i unit (each unit_checks units i unit (sizes-pass units lawful).1 found)
 

@@ -1,11 +1,10 @@
 -- What the steps keep: the keys of the uses, and that each hit is in the set.
-use Rattle.std.proofs.Common.{if◌then◌else◌, ◌≡◌, ◌<◌, ◌≤◌, ◌^◌, ◌+◌, ◌∷◌, ◌&&◌, Bool, true, false, ℕ, not, Option, Some, None, IfSome, IsSome, IsTrue, List, [], map, filter, refl, sym, ap, ap₂, ◌∙◌, subst}
+use Rattle.std.proofs.Common.{if◌then◌else◌, ◌≡◌, ◌<◌, ◌≤◌, ◌^◌, ◌+◌, ◌∷◌, ◌&&◌, Bool, true, false, ℕ, not, Option, Some, None, IfSome, IsTrue, List, [], map, filter, refl, sym, ap, ap₂, ◌∙◌, subst}
 use Rattle.std.proofs.lemmas.List.Elements.{All-map, All-weaker, All-filter, All-push}
 use Rattle.coproc_config.specs.declared.accept.Hit.{Hit}
 use Rattle.coproc_config.specs.Set.{UnitTable}
 use Rattle.coproc_config.specs.Accept.{entry_at, HasFlagsOf}
 use Rattle.coproc_config.specs.Table.{result_bits}
-use Rattle.coproc_config.specs.declared.operation.Entry.{Entry}
 use Rattle.xif_base.specs.declared.params.Params.{Params}
 use Rattle.xif_signals.specs.declared.bus.CpuOut.{CpuOut}
 use Rattle.xif_signals.specs.declared.bus.CopOut.{CopOut}
@@ -183,6 +182,3 @@ settled-keys e cpu cop input k i =
 pub hit-entry : (set : List UnitTable) (p : Params) (word : ℕ) (hit : Option Hit) → IfSome hit (λ h. HasFlagsOf (entry_at set h) p word h) → IfSome hit (λ h. HasWritesOf (entry_at set h) h)
 hit-entry set p word None f = tt
 hit-entry set p word (Some h) f = record { entry = f.entry; there = f.there; writes = f.writes }
-
-pub entry-there : (named : Option Entry) (hit : Hit) → HasWritesOf named hit → IsSome named
-entry-there named hit h = subst (λ o. IsSome o) (sym h.there) refl

@@ -47,9 +47,6 @@ apart p a b m n e = ne_eqb (number_of p a) (number_of p b) (λ q. let s = split 
 
 -- ---- a use less
 
-other_key : Key → Use → Bool
-other_key key u = not (has_key key u)
-
 kept-all : (P : ℕ → Type 0) (p : Params) (test : Use → Bool) (us : List Use) → AllByRecursion P (map (number_of p) (keys_of us)) → AllByRecursion P (map (number_of p) (keys_of (filter test us)))
 kept-all P p test [] a = tt
 kept-all P p test (u ∷ us) a = go (test u) (kept-all P p test us a.1)

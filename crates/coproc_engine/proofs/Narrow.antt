@@ -13,15 +13,14 @@ use Rattle.xif_signals.specs.declared.bus.CpuOut.{CpuOut}
 use Rattle.xif_signals.specs.declared.signal.Signal.TheVariants.{ResultData, ResultWe}
 use Rattle.xif_signals.specs.Signal.{width_of}
 use Rattle.coproc_config.specs.declared.accept.Hit.{Hit}
-use Rattle.coproc_config.specs.declared.operation.Entry.{Entry}
 use Rattle.coproc_config.specs.Accept.{IsAllowed}
-use Rattle.coproc_config.specs.Table.{operation_line, write_flags, result_bits}
+use Rattle.coproc_config.specs.Table.{result_bits}
 use Rattle.cycle_spec.specs.declared.use_of.Use.{Use}
 use Rattle.cycle_spec.specs.State.{Engine}
 use Rattle.cycle_spec.specs.Engine as spec
 use Rattle.cycle_spec.specs.Engine.{writeback_of}
 use Rattle.coproc_engine.specs.Drives.{FitsCopOut}
-use Rattle.coproc_engine.specs.Fits.{HasWritesOf, IsKey, IsNarrow, AreNarrow, FitsResult, keys_of}
+use Rattle.coproc_engine.specs.Fits.{IsKey, IsNarrow, AreNarrow, FitsResult, keys_of}
 
 -- ---- a use that starts, and one that is ready
 
@@ -54,12 +53,6 @@ ready-narrow flags bits cycle n u l h = record {
   width = h.width;
   result = fewer-bits n (result_bits (writeback_of u.hit)) bits l h.width;
 }
-
--- the result of a hit, by that of its entry
-pub bits-of-hit : (named : Option Entry) (hit : Hit) (n : ℕ) → HasWritesOf named hit → IfSome named (λ entry. n < 2 ^ result_bits (write_flags (operation_line entry.op).writes)) → n < 2 ^ result_bits hit.writeback.0
-bits-of-hit named hit n h l =
-    subst (λ flags. n < 2 ^ result_bits flags) (sym h.writes)
-    (subst (λ o. IfSome o (λ entry. n < 2 ^ result_bits (write_flags (operation_line entry.op).writes))) h.there l)
 
 -- ---- the answer
 

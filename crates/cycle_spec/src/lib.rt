@@ -5,8 +5,8 @@
 //! are in `specs/`, to be read in this order:
 //!
 //! - `Flight`: what the list of the instructions in flight says, and how an entry of it changes;
-//! - `Turns`: the transactions of a channel, counted, for the delays of a script (`Counts`, which is
-//!   internal, says how far they may be counted);
+//! - `Turns`: the transactions of a channel, counted, for the delays of a script (`Counts`, which
+//!   is internal, says how far they may be counted);
 //! - `State`: what core and engine keep from cycle to cycle;
 //! - `Choices`: what the core does in a cycle, all of it chosen from the state at its start;
 //! - `Core`: what the core drives, and its state after a cycle, step by step;

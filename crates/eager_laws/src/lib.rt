@@ -12,10 +12,10 @@
 //! - `every_run_is_eager`: each cycle of a run is eager, for every predictor, program, set of
 //!   units, script, window and budget.
 //!
-//! In `proofs/`, `Views` has what each step of a cycle changes in what log and trace say, `Refusing`
-//! that a refused word is known to stop, `Following` what each cycle keeps, `Choosing` what a cycle
-//! chooses, `Along` the walk, `Turning` the cuts of control transfers, `Cycled` one cycle and
-//! `Whole` whole runs. `Examples` computes the instructions in flight of some runs.
+//! In `proofs/`, `Views` has what each step of a cycle changes in what log and trace say,
+//! `Refusing` that a refused word is known to stop, `Following` what each cycle keeps, `Choosing`
+//! what a cycle chooses, `Along` the walk, `Turning` the cuts of control transfers, `Cycled` one
+//! cycle and `Whole` whole runs. `Examples` computes the instructions in flight of some runs.
 #![tactic(auto)]
 
 mod laws;

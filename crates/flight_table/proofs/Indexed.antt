@@ -12,7 +12,7 @@ use Rattle.xif_session.specs.declared.fact.Response.{Response}
 use Rattle.cycle_spec.specs.declared.entry.Entry.{Entry}
 use Rattle.cycle_spec.specs.declared.entry.EntryKind.{EntryKind}
 use Rattle.cycle_spec.specs.declared.entry.EntryKind.TheVariants.{Local, Unknown, Nowhere}
-use Rattle.cycle_spec.specs.Flight.{is_unknown, is_unknown_kind, has_seq, may_write, may_write_kind, may_write_word, with_response, count_through}
+use Rattle.cycle_spec.specs.Flight.{is_unknown_kind, has_seq, may_write, may_write_kind, may_write_word, with_response, count_through}
 use Rattle.flight_table.specs.Table.{writer_of}
 use Rattle.flight_table.specs.Index.{Rises, first_target, first_target_by, forgotten}
 use Rattle.flight_table.proofs.Scans.{last_hit}
@@ -151,14 +151,6 @@ no_target dual_write r e n m = ap (λ t. not (r == 0) && t) (by_kind e.kind n m)
     by_kind (Local i) n m = target_is i r n
     by_kind Unknown n m = word_target dual_write e.response (rd_field e.word) r n m
     by_kind Nowhere n m = refl
-
--- behind its first target only an unknown word may write
-pub no_second : (dual_write : Bool) (r : ℕ) (e : Entry) → is_unknown e ≡ false → r ≢ first_target e → may_write dual_write r e ≡ false
-no_second dual_write r e known n = ap (λ t. not (r == 0) && t) (by_kind e.kind known n) ∙ never (not (r == 0))
-  where
-    never : (t : Bool) → (t && false) ≡ false
-    never true = refl
-    never false = refl
 
     clash : true ≡ false → ⊥
     clash h = cc

@@ -191,9 +191,6 @@ store-told (Some s) None i j e = cc
 store-told (Some s) (Some t) i j e =
     ap Some (sym (uncut s i) ∙ store_fields s.addr s.width (s.value % 256 ^ s.width) t.addr t.width (t.value % 256 ^ t.width) e ∙ uncut t j)
 
-retire_made : (pc word : ℕ) → Write → Option Store → Retire
-retire_made pc word w s = record { pc = pc; word = word; next = 0; write = w; store = s }
-
 retire_fields : (p w q v : ℕ) (ls ms : List Line) → line.Retire p w ∷ ls ≡ line.Retire q v ∷ ms → ((p ≡ q) × (w ≡ v)) × (ls ≡ ms)
 retire_fields p w q v ls ms e = ((cc, cc), cc)
 

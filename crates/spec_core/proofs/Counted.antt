@@ -2,9 +2,7 @@
 use Rattle.std.proofs.Common.{◌≤◌, ◌<◌, ◌^◌, ℕ, Option, Some, None, IfSome, arith}
 use Rattle.cycle_spec.specs.declared.turn.Transaction.{Transaction}
 use Rattle.cycle_spec.specs.declared.turn.Transactions.{Transactions}
-use Rattle.cycle_spec.specs.State.{Core}
-use Rattle.cycle_spec.specs.Counts.{CanCountOn, AreCountedBy, IsCountedBy}
-use Rattle.spec_core.specs.Fits.{CanGoOn}
+use Rattle.cycle_spec.specs.Counts.{CanCountOn, AreCountedBy}
 
 can_count : (cycle : ℕ) (ts : Transactions) → cycle < 2 ^ 63 → AreCountedBy cycle ts → CanCountOn ts
 can_count cycle ts l c = record { begun = omega (arith, c.begun, l); age = aged ts.waiting c.age }
@@ -12,11 +10,3 @@ can_count cycle ts l c = record { begun = omega (arith, c.begun, l); age = aged 
     aged : (w : Option Transaction) → IfSome w (λ t. t.turn.age ≤ cycle) → IfSome w (λ t. t.turn.age < 2 ^ 63)
     aged None h = tt
     aged (Some t) h = omega (arith, h, l)
-
--- where there were fewer cycles than 2^63 a core can go on
-pub can_go_on : (cycle : ℕ) (w : Core) → cycle < 2 ^ 63 → IsCountedBy cycle w → CanGoOn w
-can_go_on cycle w l c = record {
-  dispatches = omega (arith, c.dispatches, l);
-  registers = can_count cycle w.register_turns l c.registers;
-  results = can_count cycle w.result_turns l c.results;
-}

@@ -22,8 +22,8 @@ impl CoreState {
     }
 }
 
-/// What the core drives where it does this, but for the result channel. The fields of a channel whose
-/// valid is 0 are 0.
+/// What the core drives where it does this, but for the result channel. The fields of a channel
+/// whose valid is 0 are 0.
 pub fn cpu_out(choices: &Choices) -> CpuOut
     ensures value { result ≡ spec.cpu_out choices.now }
     ensures word { result.issue_instr < 2 ^ 32 }

@@ -5,11 +5,10 @@ use Rattle.std.specs.FinMap as map
 use Rattle.std.proofs.lemmas.Grind.{common_steps}
 use Rattle.xif_base.specs.Files.{Files}
 use Rattle.xif_base.specs.declared.params.Params.{Params}
-use Rattle.xif_base.specs.declared.outside.WriteFail.TheVariants.{NoMemory}
 use Rattle.xif_signals.specs.declared.bus.Bus.{Bus}
 use Rattle.vcd_text.specs.Writing.{Progress, Wrote}
 use Rattle.vcd_text.specs.Written.{cycles_text, vcd_text_of}
-use Rattle.xif_targets.specs.Writing.{IsWrittenInPart, IsCountedFail}
+use Rattle.xif_targets.specs.Writing.{IsWrittenInPart}
 use Rattle.xif_targets.proofs.Growing.{growing-part}
 use Rattle.trace_file.specs.Tracing.{Tracing, IsTracing, trace_text}
 
@@ -60,13 +59,3 @@ cycle-pending before now name t w pending buses bus goes_on tracing =
 pub end-whole : (w : Progress) (buses : List Bus) (text piece : List ℕ) → text ++ piece ≡ vcd_text_of w.params buses → text ++ piece ≡ trace_text w.params buses
 unfolding trace_text
 end-whole w buses text piece e = e
-
--- out of memory before any call of the shelf
-pub no-memory : {S : Type 0} {fetch_faults write_faults : S → ℕ} {faultless : S → Type 0} (s : S) → IsCountedFail fetch_faults write_faults faultless s s NoMemory
-no-memory s = record {
-  fetches = refl;
-  counts = record { count = omega arith; stays_faultless = λ said. said; no_fault = λ said. refl };
-  failed = λ e. cc;
-  has_faults = λ e. cc;
-  no_memory = λ e. refl;
-}

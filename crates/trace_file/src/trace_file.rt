@@ -1,10 +1,10 @@
 //! A waveform that is written to a file cycle by cycle.
-ghost use Rattle.std.specs.Prelude.{◌≡◌, ◌⊎◌, ◌<◌, ◌+◌, ◌^◌, ◌++◌, ◌∷◌, [], ℕ, List, Option, IfOk, IfErr, OnOk, OnErr, IsErr};
+ghost use Rattle.std.specs.Prelude.{◌≡◌, ◌⊎◌, ◌<◌, ◌+◌, ◌^◌, ◌++◌, ◌∷◌, [], ℕ, List, length, Option, IfOk, IfErr, OnOk, OnErr, IsErr};
 ghost use Rattle.xif_base.specs.Files.{Files};
 ghost use Rattle.xif_base.specs.Params.{IsInRange};
 ghost use Rattle.xif_signals.specs.declared.bus.Bus.{Bus};
 ghost use Rattle.xif_signals.specs.Bus.{FitsWidths};
-ghost use Rattle.xif_targets.specs.Writing.{IsWritten, IsWrittenInPart, IsUncounted, IsCountedFail};
+ghost use Rattle.xif_targets.specs.Writing.{IsWritten, IsWrittenInPart, pending_limit, IsUncounted, IsCountedFail};
 ghost use Rattle.trace_file.specs.Tracing.{IsTracing, trace_text};
 
 use std::alloc::Global;
@@ -42,6 +42,7 @@ impl TraceFile {
         ensures tracing { IfOk result (λ t.
             IsTracing (S.files shelf.old) (S.files shelf.new) name.now t []) }
         ensures params { IfOk result (λ t. t.writer.params ≡ params.now) }
+        ensures pending { IfOk result (λ t. length t.pending < pending_limit) }
         ensures uncounted { OnOk result (IsUncounted S.fetch_faults S.write_faults S.faultless
             shelf.old shelf.new) }
         ensures part { OnErr result ((buses : List Bus) →
@@ -67,6 +68,7 @@ impl TraceFile {
         ensures tracing { OnOk result ((before : Option Files) → (buses : List Bus) →
             IsTracing before (S.files shelf.old) name.now self.old buses
             → IsTracing before (S.files shelf.new) name.now self.new (buses ++ bus.now ∷ [])) }
+        ensures pending { OnOk result (length (self.new).pending < pending_limit) }
         ensures uncounted { OnOk result (IsUncounted S.fetch_faults S.write_faults S.faultless
             shelf.old shelf.new) }
         ensures part { OnErr result ((before : Option Files) → (buses more : List Bus) →

@@ -10,9 +10,8 @@ use Rattle.xif_signals.specs.Signal.{width_of}
 use Rattle.std.specs.List.{flat_map}
 use Rattle.std.specs.Int.Digits.{digits_of}
 use Rattle.std.proofs.lemmas.Int.Digits.{digits_of_step}
-use Rattle.std.proofs.lemmas.List.{map-append, append-nil, length-append, drop-set, take-append-le, take-append-drop, length-take, length-drop, take_all}
+use Rattle.std.proofs.lemmas.List.{map-append, append-nil, length-append, drop-set, take-append-le, length-take, length-drop, take_all}
 use Rattle.std.proofs.Math.Nat.{div-lt_iff_lt-mul, pow-zero, pow-suc}
-use Rattle.std.proofs.Math.Seq.{take-append_seam}
 use Rattle.xif_base.specs.declared.params.Params.{Params}
 use Rattle.xif_signals.specs.declared.bus.Bus.{Bus}
 use Rattle.xif_signals.specs.Bus.{sample_of}
@@ -144,12 +143,6 @@ pub front_more : (front text new more : List ℕ) → new ≡ text ++ more → t
 front_more front text new more h e =
     let long : length front ≤ length text = omega (arith, ap length e, length-take (length front) text) in
     ap (take (length front)) h ∙ take-append-le (length front) text more long ∙ e
-
--- likewise with more in front
-pub front_less : (front text more after : List ℕ) → text ≡ front ++ more → take (length text) after ≡ text → take (length front) after ≡ front
-front_less front text more after e h =
-    let whole : after ≡ front ++ (more ++ drop (length text) after) = sym (take-append-drop (length text) after) ∙ ap (λ t. t ++ drop (length text) after) (h ∙ e) ∙ append_assoc front more (drop (length text) after) in
-    rw whole (take-append_seam front (more ++ drop (length text) after))
 
 pub some_line : (out new piece : List ℕ) (w v : ℕ) → 0 < v → v ≡ w → new ≡ out ++ piece → new ≡ out ++ cond (nat_lt 0 w) piece []
 some_line out new piece w v h k e =

@@ -121,11 +121,3 @@ sound-so_far text = (onward-fold (from start) (complete [] 0 text)).sound from-s
 all-drop : (P : Item → Type 0) (items : List Item) → All P items → All P (drop 1 items)
 all-drop P [] h = h
 all-drop P (i ∷ is) h = λ k d lt. h (suc k) d (omega arith)
-
--- an item fewer
-pub sound-take : (r : Read) → IsSoundRead r → IsSoundRead (record r { items = drop 1 r.items })
-sound-take r h = record {
-  state = h.state;
-  none = λ none. ap (drop 1) (h.none none);
-  some = λ vs is. let a = h.some vs is in (a.0, all-drop (FitsDeclared vs) r.items a.1);
-}

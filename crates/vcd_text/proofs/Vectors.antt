@@ -11,7 +11,7 @@ use Rattle.std.proofs.lemmas.Option.{slice_get-get_or}
 use Rattle.vcd_text.specs.declared.digit.Digit.{Digit}
 use Rattle.vcd_text.specs.declared.digit.Digit.TheVariants.{Zero, One, X, Z}
 use Rattle.vcd_text.specs.Words.{digit, digits, with_digit}
-use Rattle.vcd_text.specs.Vectors.{digit_by, digits_by, aval_of, bval_of, AreShort, IsBinary}
+use Rattle.vcd_text.specs.Vectors.{digit_by, digits_by, aval_of, bval_of, IsBinary}
 use Rattle.vcd_text.proofs.Front.{with_front, front_more}
 
 pub length-digits_by : (count a b : ℕ) → length (digits_by count a b) ≡ count
@@ -47,21 +47,6 @@ bval_small Zero = omega arith
 bval_small One = omega arith
 bval_small X = omega arith
 bval_small Z = omega arith
-
--- with one digit more
-pub digits_push : (count a b : ℕ) (d : Digit) → digits_by (suc count) (a * 2 + aval_of d) (b * 2 + bval_of d) ≡ digits_by count a b ++ d ∷ []
-digits_push count a b d =
-    digits_by-push count a b (aval_of d) (bval_of d) (aval_small d) (bval_small d)
-    ∙ ap (λ x. digits_by count a b ++ x ∷ []) (digit_by-of d)
-
-pub short_push : (count a b : ℕ) (d : Digit) → count < 64 → AreShort count a b → AreShort (suc count) (a * 2 + aval_of d) (b * 2 + bval_of d)
-short_push count a b d h s =
-    let twice : 2 ^ suc count ≡ 2 * 2 ^ count = pow-succ' 2 count in
-    record {
-      few = omega (arith, h);
-      low = omega (arith, s.low, twice, aval_small d);
-      high = omega (arith, s.high, twice, bval_small d);
-    }
 
 -- the bit at a place above the last
 bit_above : (a count i : ℕ) → i < count → a / 2 / 2 ^ (count - 1 - i) ≡ a / 2 ^ (suc count - 1 - i)

@@ -1,7 +1,6 @@
 -- Items that are taken from a reader, one by one.
 use Rattle.std.proofs.Common.{◌≡◌, ◌∙◌, ◌+◌, Bool, true, false, cond, List, [], ◌∷◌, ◌++◌, length, drop, Some, None, refl, sym, ap, subst, append_assoc, arith}
 use Rattle.std.specs.Prelude.{slice_get}
-use Rattle.std.proofs.lemmas.List.{append-nil}
 use Rattle.xif_base.specs.declared.params.Params.{Params}
 use Rattle.vcd_text.specs.declared.declaration.Variable.{Variable}
 use Rattle.vcd_text.specs.declared.item.Item.{Item}
@@ -52,12 +51,6 @@ nothing : (failed : Bool) (queue : List Item) → failed ≡ false → None ≡ 
 nothing true queue f e = cc
 nothing false [] f e = refl
 nothing false (x ∷ xs) f e = cc
-
-pub gone_all : (start r : reader.Progress) (gone : List Item) → gone ++ r.read.items ≡ start.read.items → r.has_failed ≡ false → None ≡ cond r.has_failed None (slice_get r.read.items 0)
-    → (r.read.items ≡ []) × (gone ≡ start.read.items)
-gone_all start r gone e f n =
-    let empty = nothing r.has_failed r.read.items f n in
-    (empty, sym (append-nil gone) ∙ sym (ap (λ q. gone ++ q) empty) ∙ e)
 
 abbrev pub with_items : reader.Progress → List Item → reader.Progress
 with_items r queue = record r { read = record r.read { items = queue } }

@@ -1,7 +1,6 @@
 -- What no call, and two calls in a row, leave of a shelf or an output.
-use Rattle.std.proofs.Common.{ℕ, Option, refl, arith, ◌∙◌}
-use Rattle.xif_base.specs.Files.{Files}
-use Rattle.xif_base.specs.Faults.{CountsFaults, OnlyReads}
+use Rattle.std.proofs.Common.{ℕ, refl, arith, ◌∙◌}
+use Rattle.xif_base.specs.Faults.{CountsFaults}
 
 pub counts_none : {T : Type 0} {faults : T → ℕ} {faultless : T → Type 0} (x : T) →
     CountsFaults faults faultless x x
@@ -18,19 +17,4 @@ counts_twice first second = record {
   count = omega (arith, first.count, second.count);
   stays_faultless = λ none. second.stays_faultless (first.stays_faultless none);
   no_fault = λ none. second.no_fault (first.stays_faultless none) ∙ first.no_fault none;
-}
-
-pub reads_none : {T : Type 0} {files : T → Option Files} {fetch_faults write_faults : T → ℕ}
-    {faultless : T → Type 0} (x : T) → OnlyReads files fetch_faults write_faults faultless x x
-reads_none x = record { same_files = refl; same_writes = refl; counts = counts_none x }
-
-pub reads_twice : {T : Type 0} {files : T → Option Files} {fetch_faults write_faults : T → ℕ}
-    {faultless : T → Type 0} {old between new : T} →
-    OnlyReads files fetch_faults write_faults faultless old between →
-    OnlyReads files fetch_faults write_faults faultless between new →
-    OnlyReads files fetch_faults write_faults faultless old new
-reads_twice first second = record {
-  same_files = second.same_files ∙ first.same_files;
-  same_writes = second.same_writes ∙ first.same_writes;
-  counts = counts_twice first.counts second.counts;
 }

@@ -1,5 +1,5 @@
 -- What a part of a command does after a file was read, and what it leaves out if none was.
-use Rattle.std.proofs.Common.{◌≡◌, ◌⊎◌, inl, inr, ℕ, Option, Result, Ok, Err, refl, sym, ap, ◌∙◌, arith}
+use Rattle.std.proofs.Common.{◌≡◌, ◌⊎◌, inl, inr, ℕ, Option, Result, Ok, Err, refl, ap, ◌∙◌}
 use Rattle.std.specs.Prelude.{IsErrAnd, IsTrue}
 use Rattle.std.proofs.lemmas.Result.{err_from_is_err_and}
 use Rattle.xif_base.specs.Files.{Files}
@@ -69,22 +69,3 @@ refuses-waveform (WriteFault w) h = h
 refuses-waveform (Job fault) h = h
 refuses-waveform (Image fault) h = h
 refuses-waveform Unbuilt h = h
-
--- what reads no file means the same over all
-pub ends_unread : {S A : Type 0} {files : S → Option Files} {fetch_faults write_faults : S → ℕ} {faultless : S → Type 0}
-    (shelf : S) (x : A) (r : Result A Status)
-    → (r ≡ Ok x) ⊎ (r ≡ Err NoMemory)
-    → Ends files fetch_faults write_faults faultless shelf shelf (λ find. Ok x) r
-ends_unread {A = A} shelf x r is =
-    let no_read : (w : Which) → r ≡ Err (ReadFault w) → ⊥ = λ w e. elim is [ inl done ↦ cc | inr none ↦ cc ] in
-    record {
-      outcome = λ m told. elim is [ inl done ↦ inl (sym done) | inr none ↦ inr (inl none) ];
-      before = λ m told w e. absurd (no_read w e);
-      unreported = λ none w e. absurd (no_read w e);
-      uncounted = inl refl;
-      only_reads = record {
-        same_files = refl;
-        same_writes = refl;
-        counts = record { count = omega arith; stays_faultless = λ said. said; no_fault = λ said. refl };
-      };
-    }

@@ -168,7 +168,8 @@ fn print_command<S: Shelf, O: Out>(
     ensures can_end { IsTrue (can_end (form_of command.entry) result) }
     ensures unbuilt { is_built (form_of command.entry) ≡ false →
         (result ≡ Status.Unbuilt) × (shelf.new ≡ shelf.old) }
-    ensures only_reads { OnlyReads S.files S.fetch_faults S.write_faults S.faultless shelf.old shelf.new }
+    ensures only_reads { OnlyReads S.files S.fetch_faults S.write_faults S.faultless
+        shelf.old shelf.new }
 {
     match answer_of(alloc, command, shelf) {
         Ok(answer) => print_answer(&answer, out),

@@ -2,7 +2,7 @@
 use Rattle.std.proofs.Common.{◌≡◌, ◌+◌, ◌<◌, ◌==◌, ◌&&◌, ℕ, Bool, true, false, cond, List, [], ◌∷◌, ◌++◌, length, take, drop, get_or, Ok, Err, Option, Some, None, Result, refl, sym, ap, ◌∙◌, bytes_eq, ◌≢◌, arith}
 use Rattle.std.proofs.lemmas.Bool.Decides.{nat_tests}
 use Rattle.std.specs.List.{list_all}
-use Rattle.std.proofs.lemmas.List.{take-append-drop, append-nil}
+use Rattle.std.proofs.lemmas.List.{take-append-drop}
 use Rattle.std.proofs.lemmas.List.Elements.{filter_more, filter-append}
 use Rattle.std.proofs.lemmas.List.Folds.{list_all-append}
 use Rattle.xif_signals.specs.declared.signal.Signal.{Signal}
@@ -15,15 +15,6 @@ use Rattle.xif_sampler.specs.Places.{named, variable_of}
 abbrev pub so_far : Signal → Option Variable → Result Variable MapFault
 so_far s None = Err (Missing s)
 so_far s (Some v) = Ok v
-
--- a variable of another name adds nothing
-pub other_named : (name : List ℕ) (vs : List Variable) (i : ℕ) (v : Variable) → i < length vs → v ≡ get_or vs i v → bytes_eq v.name name ≡ false
-    → named name (take (i + 1) vs) ≡ named name (take i vs)
-other_named name vs i v h at e =
-    filter_more (λ w. bytes_eq w.name name) vs i v h
-    ∙ ap (λ w. named name (take i vs) ++ cond (bytes_eq w.name name) (w ∷ []) []) (sym at)
-    ∙ ap (λ b. named name (take i vs) ++ cond b (v ∷ []) []) e
-    ∙ append-nil (named name (take i vs))
 
 pub this_named : (name : List ℕ) (vs : List Variable) (i : ℕ) (v : Variable) → i < length vs → v ≡ get_or vs i v → bytes_eq v.name name ≡ true
     → named name (take (i + 1) vs) ≡ named name (take i vs) ++ v ∷ []

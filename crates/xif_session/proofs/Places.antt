@@ -1,6 +1,6 @@
 -- The first fault of a cycle: its rule fails, and every rule before it holds.
 use Rattle.std.proofs.Common.{◌≡◌, ◌<◌, ◌≤◌, ◌+◌, ◌&&◌, ◌↔◌, not, ℕ, Bool, true, false, if◌then◌else◌, Option, Some, None, List, [], ◌∷◌, refl, sym, ap, ◌∙◌, subst, arith, inl, inr}
-use Rattle.std.specs.Prelude.{◌⊎◌, find, nat_le, slice_get, IsTrue}
+use Rattle.std.specs.Prelude.{◌⊎◌, find, nat_le, slice_get}
 use Rattle.std.specs.Option.{option_map, option_map_or}
 use Rattle.std.proofs.lemmas.Bool.{cases_lt}
 use Rattle.xif_base.specs.declared.params.Params.{Params}
@@ -13,8 +13,8 @@ use Rattle.xif_signals.specs.declared.rule.Rule.TheVariants.{K1, K2, H1, I1, I2,
 use Rattle.xif_session.specs.declared.fault.Fault.{Fault}
 use Rattle.xif_session.specs.Facts.{Past}
 use Rattle.xif_session.specs.Legal.{Holds, HoldsAll, rule_number}
-use Rattle.xif_session.specs.Tests.{keeps, lost_channel, fault_on, fault_of, first_fault_in, bus_rules, bus_fault, IsFirstFault}
-use Rattle.xif_session.proofs.Options.{both-true, no_true, not_in, not_out, le_in}
+use Rattle.xif_session.specs.Tests.{keeps, lost_channel, fault_on, fault_of, bus_rules, bus_fault, IsFirstFault}
+use Rattle.xif_session.proofs.Options.{both-true, no_true, le_in}
 use Rattle.xif_session.proofs.RuleTests.{rule_test}
 
 abbrev pub Member : Rule → List Rule → Type 0
@@ -27,9 +27,6 @@ rises n [] = true
 rises n (r ∷ rs) = nat_le n (rule_number r) && rises (rule_number r + 1) rs
 
 -- ---- of any list
-
-not_less : (n m : ℕ) → n < m → m ≤ n → ⊥
-not_less n m h k = absurd (omega arith)
 
 above : (n : ℕ) (rules : List Rule) → rises n rules ≡ true → (rule : Rule) → Member rule rules → n ≤ rule_number rule
 above n [] h rule m = absurd m

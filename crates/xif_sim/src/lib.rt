@@ -2,8 +2,8 @@
 //!
 //! `one_cycle` takes a core and an engine through a cycle, and no premise of it speaks of both but
 //! that they have the same parameters. A `Setup` says what a run is made of. `simulate` keeps all of
-//! the run; a `Simulation` tells the same run cycle by cycle, for callers that write or count what
-//! they are told and keep nothing.
+//! the run; a `Simulation` returns the same run cycle by cycle, for callers that write or count
+//! what they get and keep nothing.
 //!
 //! What a cycle and a run are is defined in the crate `cycle_spec` (`Cycle` and `Run` there). Here
 //! `specs/Setup.antt` says which setups are lawful, and `specs/Simulating.antt` what a `Simulation`

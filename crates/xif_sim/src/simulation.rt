@@ -84,7 +84,8 @@ impl Simulation {
         ensures fits { IfSome result
             (λ told. FitsWidths (self.old).machines.core.params told.0) }
         ensures params { (self.new).machines.core.params ≡ (self.old).machines.core.params }
-        ensures fewer { IfSome result (λ told. spec.cycles_left self.new < spec.cycles_left self.old) }
+        ensures fewer { IfSome result
+            (λ told. spec.cycles_left self.new < spec.cycles_left self.old) }
     {
         if self.is_over() {
             return None;

@@ -10,7 +10,7 @@ use Rattle.xif_base.specs.declared.outside.WriteFail.TheVariants.{Failed, NoMemo
 abbrev pub IsWritten : (before now : Option Files) (name bytes : List ℕ) → Type 0
 IsWritten before now name bytes = Becomes before now (λ m. map.insert m name bytes)
 
--- likewise with a front of the bytes
+-- likewise with a prefix of the bytes
 pub record IsWrittenInPart (before now : Option Files) (name bytes : List ℕ) : Type 0 where
   pub count : ℕ
   pub within : count ≤ length bytes
@@ -21,6 +21,10 @@ pub record IsGrowing (before now : Option Files) (name pending bytes : List ℕ)
   pub sent : List ℕ
   pub all : bytes ≡ sent ++ pending
   pub is_sent : IsWritten before now name sent
+
+-- With each piece less than this many bytes stay pending.
+abbrev pub pending_limit : ℕ
+pending_limit = 65536
 
 -- Nothing was counted on a shelf between two moments, and one that said it has no faults says so
 -- still. The first three are the meanings of the shelf.

@@ -1,7 +1,7 @@
 //! A file that is written piece by piece, through a buffer.
-ghost use Rattle.std.specs.Prelude.{◌≡◌, ◌⊎◌, ◌++◌, List, [], ℕ, Option, OnOk, OnErr, IfOk, IfErr};
+ghost use Rattle.std.specs.Prelude.{◌≡◌, ◌⊎◌, ◌<◌, ◌++◌, List, [], ℕ, length, Option, OnOk, OnErr, IfOk, IfErr};
 ghost use Rattle.xif_base.specs.Files.{Files};
-ghost use Rattle.xif_targets.specs.Writing.{IsWritten, IsWrittenInPart, IsGrowing, IsUncounted, IsCountedFail};
+ghost use Rattle.xif_targets.specs.Writing.{IsWritten, IsWrittenInPart, IsGrowing, pending_limit, IsUncounted, IsCountedFail};
 
 use crate::whole::append_all;
 use std::alloc::Global;
@@ -41,6 +41,7 @@ pub fn append_text<S: Shelf>(
     ensures growing { OnOk result ((before : Option Files) → (bytes : List ℕ) →
         IsGrowing before (S.files shelf.old) name.now buffer.old.items bytes
         → IsGrowing before (S.files shelf.new) name.now buffer.new.items (bytes ++ piece.now)) }
+    ensures pending { OnOk result (length buffer.new.items < pending_limit) }
     ensures uncounted { OnOk result (IsUncounted S.fetch_faults S.write_faults S.faultless
         shelf.old shelf.new) }
     ensures front { OnErr result ((before : Option Files) → (bytes : List ℕ) →
@@ -61,6 +62,7 @@ pub fn send_full<S: Shelf>(shelf: &mut S, name: &str, buffer: &mut Vec<u8>) -> R
     ensures growing { OnOk result ((before : Option Files) → (bytes : List ℕ) →
         IsGrowing before (S.files shelf.old) name.now buffer.old.items bytes
         → IsGrowing before (S.files shelf.new) name.now buffer.new.items bytes) }
+    ensures pending { OnOk result (length buffer.new.items < pending_limit) }
     ensures uncounted { OnOk result (IsUncounted S.fetch_faults S.write_faults S.faultless
         shelf.old shelf.new) }
     ensures front { OnErr result ((before : Option Files) → (bytes : List ℕ) →

@@ -26,7 +26,7 @@ pub fn write_file<S: Shelf>(shelf: &mut S, name: &str, bytes: &[u8]) -> Result<(
 /// the shelf that fails.
 pub fn append_all<S: Shelf>(shelf: &mut S, name: &str, bytes: &[u8]) -> Result<(), WriteFail>
     // What was written to the file since some moment before goes on with all of the bytes, or with
-    // a front of them.
+    // a prefix of them.
     ensures whole { OnOk result ((before : Option Files) → (sent : List ℕ) →
         IsWritten before (S.files shelf.old) name.now sent
         → IsWritten before (S.files shelf.new) name.now (sent ++ bytes.now)) }
@@ -34,7 +34,7 @@ pub fn append_all<S: Shelf>(shelf: &mut S, name: &str, bytes: &[u8]) -> Result<(
         IsWritten before (S.files shelf.old) name.now sent
         → IsWrittenInPart before (S.files shelf.new) name.now (sent ++ bytes.now)) }
 
-    // Nothing is counted unless a call fails, which it does for want of memory or for a fault.
+    // Nothing is counted unless a call fails, which it does when memory runs out or for a fault.
     ensures uncounted { OnOk result (IsUncounted S.fetch_faults S.write_faults S.faultless
         shelf.old shelf.new) }
     ensures counted { IfErr result (λ fail. (before : Option Files) → (sent : List ℕ) →

@@ -8,12 +8,12 @@ use Rattle.std.proofs.lemmas.List.{get_or-set_same, get_or-set_other, map-set, l
 use Rattle.std.proofs.Math.Nat.{mul_comm}
 use Rattle.xif_base.specs.declared.params.Key.{Key}
 use Rattle.xif_base.specs.declared.params.Params.{Params}
-use Rattle.xif_session.specs.Facts.{Facts, same_key}
-use Rattle.xif_session.proofs.Options.{key_is, key_same, no_true}
+use Rattle.xif_session.specs.Facts.{same_key}
+use Rattle.xif_session.proofs.Options.{key_same, no_true}
 use Rattle.xif_uses.specs.declared.entry.Use.{Use}
 use Rattle.xif_uses.specs.declared.places.Slot.{Slot}
 use Rattle.xif_uses.specs.Slots.{live, empty_slot}
-use Rattle.xif_uses.specs.Table.{Table, IsKey, Represents, Sets, place_of, use_of, fact_of}
+use Rattle.xif_uses.specs.Table.{Table, IsKey, Represents, Sets, place_of, fact_of}
 
 pub three : (a b : ℕ) → (P : Type 0) → (a < b → P) → (a ≡ b → P) → (b < a → P) → P
 three zero zero P f g h = g refl
@@ -68,22 +68,6 @@ set_one params session slots key latest k l = record {
   where
     changed : (latest : Option Use) → uses_in session (slice_set slots (place_of params key) (record { session = session; latest = latest })) ≡ slice_set (uses_in session slots) (place_of params key) (live session session latest)
     changed latest = map-set (λ slot. live session slot.session slot.latest) slots (place_of params key) (record { session = session; latest = latest })
-
--- the facts follow the change of one key
-pub sets_facts : (old new : Table) (params : Params) (before' after' : Facts) (key : Key) (latest : Option Use) → IsKey old.params key
-    → Represents old params before' → Sets old new key latest → option_map fact_of latest ≡ after' key → ((other : Key) → same_key key other ≡ false → after' other ≡ before' other)
-    → Represents new params after'
-sets_facts old new params before' after' key latest k r s here others = record {
-  same = s.params ∙ r.same;
-  uses = λ other m. go other m (same_key key other) refl;
-}
-  where
-    go : (other : Key) → IsKey params other → (t : Bool) → same_key key other ≡ t → option_map fact_of (use_of new other) ≡ after' other
-    go other m true q =
-        let e : key ≡ other = key_is key other q in
-        ap (λ x. option_map fact_of (use_of new x)) (sym e) ∙ ap (option_map fact_of) s.latest ∙ here ∙ ap after' e
-    go other m false q =
-        ap (option_map fact_of) (s.others other (subst (λ p. IsKey p other) (sym r.same) m) q) ∙ r.uses other m ∙ sym (others other q)
 
 -- no place holds a use
 

@@ -1,7 +1,7 @@
-use Rattle.std.proofs.Common.{◌≡◌, ◌≤◌, ◌+◌, ◌++◌, ◌⊎◌, inl, inr, Result, Ok, Err, ◌∙◌, ap, length, take, drop, refl, sym, subst, rules, arith}
+use Rattle.std.proofs.Common.{◌≡◌, ◌++◌, inl, inr, Err, ◌∙◌, ap, take, subst, arith}
 use Rattle.std.proofs.lemmas.Result.{err_from_is_err_and}
 use Rattle.xif_base.specs.Files.{IsMissing}
-use Rattle.xif_targets.specs.Writing.{IsWritten, IsWrittenInPart}
+use Rattle.xif_targets.specs.Writing.{IsWritten}
 use Rattle.xif_targets.proofs.Growing.{slice-more, part-of, written-more, written-there, uncounted-behind, fail-behind, on_err, if_err}
 use Rattle.xif_targets.proofs.whole.append_all.Goals as goal
 

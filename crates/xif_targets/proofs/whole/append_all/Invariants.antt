@@ -1,4 +1,4 @@
-use Rattle.std.proofs.Common.{◌≡◌, ◌≤◌, ◌-◌, ◌++◌, ℕ, List, Option, length, take}
+use Rattle.std.proofs.Common.{◌≤◌, ◌-◌, ◌++◌, ℕ, List, Option, length, take}
 use Rattle.xif_base.specs.Files.{Files}
 use Rattle.xif_targets.specs.Writing.{IsWritten, IsUncounted}
 use Rattle.xif_targets.proofs.whole.append_all.Given as goal

@@ -1,4 +1,4 @@
-use Rattle.std.proofs.Common.{◌≡◌, inl, inr, [], arith}
+use Rattle.std.proofs.Common.{inr, [], arith}
 use Rattle.std.proofs.lemmas.Result.{on_ok_weaker, on_err_weaker, IfErr-weaker}
 use Rattle.xif_targets.proofs.Growing.{fail-behind}
 use Rattle.xif_targets.proofs.whole.write_file.Goals as goal
