@@ -1,3 +1,4 @@
+pub mod AllKnown
 pub mod Bits
 pub mod Channels
 pub mod Fits

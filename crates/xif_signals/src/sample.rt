@@ -1,5 +1,6 @@
 //! The bits of the signals in one cycle, some of them unknown.
-ghost use Rattle.std.specs.Prelude.{◌≡◌, ◌≢◌, ◌<◌, ◌^◌, slice_set, map};
+ghost use Rattle.std.specs.Prelude.{◌≡◌, ◌≢◌, ◌==◌, ◌<◌, ◌^◌, slice_set, map};
+ghost use Rattle.std.specs.List.{list_all};
 ghost use Rattle.xif_base.specs.Params.{IsInRange};
 ghost use Rattle.xif_signals.specs.declared.signal.Signal.TheVariants.{Clk};
 ghost use Rattle.xif_signals.specs.Signal.{width_of};
@@ -62,6 +63,13 @@ impl Sample {
         }
     }
 
+    /// The sample with the bits of each signal but the clock, in the order of the table.
+    pub fn from_quads(quads: [Quad; 28]) -> Sample
+        ensures { result ≡ quads }
+    {
+        Sample { quads }
+    }
+
     /// The bits of a signal other than the clock.
     pub fn get(&self, signal: Signal) -> Quad
         requires { signal ≢ Clk }
@@ -104,6 +112,13 @@ impl Sample {
             quads[index] = Quad::of(*value);
         }
         Sample { quads }
+    }
+
+    /// Whether no bit of any signal is unknown, below its width or above.
+    pub(crate) fn are_all_known(&self) -> bool
+        ensures { result ≡ list_all (λ quad. quad.unknown == 0) self.now }
+    {
+        self.quads.iter().all(|quad| quad.unknown == 0)
     }
 
     /// The bits below the signal's width, an unknown bit as 0.
