@@ -1,3 +1,4 @@
+pub mod WrittenBinary
 pub mod CodeTable
 pub mod ShortCodes
 pub mod Following

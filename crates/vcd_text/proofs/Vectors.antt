@@ -1,8 +1,6 @@
 -- Digits as two numbers.
-use Rattle.std.proofs.Common.{◌≡◌, ◌+◌, ◌-◌, ◌*◌, ◌/◌, ◌%◌, ◌^◌, ◌<◌, ◌≤◌, ℕ, zero, suc, List, [], ◌∷◌, ◌++◌, length, get_or, Some, refl, sym, ap, ◌∙◌, arith, ◌⊎◌, inl, inr, drop, drop-cons}
-use Rattle.std.specs.Prelude.{nat_le, ◌&&◌, true}
+use Rattle.std.proofs.Common.{◌≡◌, ◌+◌, ◌-◌, ◌*◌, ◌/◌, ◌%◌, ◌^◌, ◌<◌, ◌≤◌, ℕ, zero, suc, [], ◌∷◌, ◌++◌, length, get_or, Some, refl, sym, ap, ◌∙◌, arith, ◌⊎◌, inl, inr}
 use Rattle.std.specs.List.{slice_get}
-use Rattle.std.proofs.Math.Nat.{pow-succ'}
 use Rattle.std.proofs.lemmas.Bool.{cases_lt}
 use Rattle.std.proofs.lemmas.Bool.Decides.{nat_tests}
 use Rattle.std.proofs.lemmas.List.{length-append, get_or-append_right, get_or_append_left}
@@ -10,9 +8,8 @@ use Rattle.std.proofs.lemmas.Nat.{shr-shr}
 use Rattle.std.proofs.lemmas.Option.{slice_get-get_or}
 use Rattle.vcd_text.specs.declared.digit.Digit.{Digit}
 use Rattle.vcd_text.specs.declared.digit.Digit.TheVariants.{Zero, One, X, Z}
-use Rattle.vcd_text.specs.Words.{digit, digits, with_digit}
+use Rattle.vcd_text.specs.Words.{digit}
 use Rattle.vcd_text.specs.Vectors.{digit_by, digits_by, aval_of, bval_of, IsBinary}
-use Rattle.vcd_text.proofs.Front.{with_front, front_more}
 
 pub length-digits_by : (count a b : ℕ) → length (digits_by count a b) ≡ count
 length-digits_by zero a b = refl
@@ -91,10 +88,6 @@ slice_get-digits_by count a b i h =
 pub digit-binary : (byte : ℕ) → 48 ≤ byte → byte ≤ 49 → digit byte ≡ Some (digit_by (byte - 48) 0)
 digit-binary byte h k = grind (arith, nat_tests)
 
--- one digit more of a number
-pub binary_more : (count n byte : ℕ) → 48 ≤ byte → byte ≤ 49 → digits_by (suc count) (n * 2 + (byte - 48)) 0 ≡ digits_by count n 0 ++ digit_by (byte - 48) 0 ∷ []
-binary_more count n byte h k = digits_by-push count n 0 (byte - 48) 0 (omega (arith, h, k)) (omega arith)
-
 pub binary_is : (count a b : ℕ) → b ≡ 0 → 0 < count → a < 2 ^ count → IsBinary (digits_by count a b) a
 binary_is count a b e h k =
     let count_is : length (digits_by count a b) ≡ count = length-digits_by count a b in
@@ -103,26 +96,3 @@ binary_is count a b e h k =
       below = rw count_is k;
       some = rw count_is h;
     }
-
-is_low : (byte : ℕ) → (nat_le 48 byte && nat_le byte 49) ≡ true → 48 ≤ byte
-is_low byte e = grind (arith, nat_tests)
-
-is_high : (byte : ℕ) → (nat_le 48 byte && nat_le byte 49) ≡ true → byte ≤ 49
-is_high byte e = grind (arith, nat_tests)
-
--- the digits so far, and those of the rest, with one byte more read
-pub binary_step : (bytes : List ℕ) (i n bit : ℕ) → i < length bytes → (nat_le 48 (get_or bytes i 0) && nat_le (get_or bytes i 0) 49) ≡ true → bit ≡ get_or bytes i 0 - 48 → n < 2 ^ i
-    → with_front (digits_by i n 0) (digits (drop i bytes)) ≡ digits bytes
-    → (n * 2 + bit < 2 ^ (i + 1)) × (with_front (digits_by (i + 1) (n * 2 + bit) 0) (digits (drop (i + 1) bytes)) ≡ digits bytes)
-binary_step bytes i n bit inside test is below so_far =
-    let byte = get_or bytes i 0 in
-    let low : 48 ≤ byte = is_low byte test in
-    let high : byte ≤ 49 = is_high byte test in
-    let next : i + 1 ≡ suc i = omega arith in
-    let twice : 2 ^ suc i ≡ 2 * 2 ^ i = pow-succ' 2 i in
-    let split : drop i bytes ≡ byte ∷ drop (suc i) bytes = drop-cons bytes i 0 inside in
-    let one : digits (byte ∷ []) ≡ Some (digit_by (byte - 48) 0 ∷ []) = ap (λ d. with_digit d (Some [])) (digit-binary byte low high) in
-    rw (next, is) (
-      omega (arith, twice, below, low, high),
-      front_more bytes (byte ∷ []) (drop (suc i) bytes) (drop i bytes) (digits_by i n 0) (digits_by (suc i) (n * 2 + (byte - 48)) 0) (digit_by (byte - 48) 0 ∷ []) split so_far one (binary_more i n byte low high),
-    )

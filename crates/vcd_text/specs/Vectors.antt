@@ -1,8 +1,9 @@
 -- Digits as two numbers, as the values of vectors are given to programs: `s_vpi_vecval` (IEEE
 -- 1364-2005, 27.14).
-use Rattle.std.specs.Prelude.{◌≡◌, ◌≤◌, ◌<◌, ◌^◌, ◌/◌, ◌%◌, ◌==◌, ℕ, zero, suc, if◌then◌else◌, List, [], ◌∷◌, ◌++◌, length}
+use Rattle.std.specs.Prelude.{◌≡◌, ◌≤◌, ◌<◌, ◌^◌, ◌/◌, ◌%◌, ◌==◌, ℕ, zero, suc, if◌then◌else◌, List, [], ◌∷◌, ◌++◌, length, Some}
 use Rattle.vcd_text.specs.declared.digit.Digit.{Digit}
 use Rattle.vcd_text.specs.declared.digit.Digit.TheVariants.{Zero, One, X, Z}
+use Rattle.vcd_text.specs.Words.{digits}
 
 -- the digit by its bit of each number: 00 is 0, 10 is 1, 11 is x and 01 is z
 abbrev pub digit_by : ℕ → ℕ → Digit
@@ -33,6 +34,11 @@ abbrev pub bval_of : Digit → ℕ
 bval_of X = 1
 bval_of Z = 1
 bval_of _ = 0
+
+-- the bytes are the digits that write a number in binary
+pub record IsWritten (bytes : List ℕ) (n : ℕ) : Type 0 where
+  pub below : n < 2 ^ length bytes
+  pub reads : digits bytes ≡ Some (digits_by (length bytes) n 0)
 
 -- so many digits have room in numbers of 64 bits, which have no other bits
 pub record AreShort (count a b : ℕ) : Type 0 where

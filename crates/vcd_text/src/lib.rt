@@ -19,6 +19,7 @@
 //! to `Phrases`. `Digits`, `Scanner`, `Steps`, `Sound` and `ShortCodes` are internal.
 #![tactic(auto)]
 
+mod binary;
 mod codes;
 mod declaration;
 mod declare;

@@ -5,6 +5,7 @@ ghost use Rattle.std.specs.Str.{is_utf8};
 ghost use Rattle.vcd_text.specs.declared.digit.Digit.{Digit};
 ghost use Rattle.vcd_text.specs.Words.{is_white, zero_digit, number, digit, digits, keyword, is_end, is_command, is_code_character, is_code};
 
+use crate::binary::binary_digits;
 use crate::keyword::Keyword;
 use crate::short_digits::{SHORT, ShortDigits};
 use crate::{Digit, Digits};
@@ -51,7 +52,7 @@ pub fn digit(byte: u8) -> Option<Digit>
 
 /// Whether a byte is `0` or `1`, as nearly all digits are. The two follow no pattern that a
 /// processor could foresee, so this takes one branch for both.
-fn is_binary(byte: u8) -> bool
+pub fn is_binary(byte: u8) -> bool
     ensures { result ≡ (nat_le zero_digit byte && nat_le byte (zero_digit + 1)) }
 {
     b'0' <= byte && byte <= b'1'
@@ -82,21 +83,6 @@ pub fn digits(alloc: Global, bytes: &[u8]) -> Result<Option<Digits>, NoMemory>
         None => short_digits(bytes),
     };
     Ok(found.map(Digits::short))
-}
-
-/// The digits that the bytes are, if each is `0` or `1`.
-fn binary_digits(bytes: &[u8]) -> Option<ShortDigits>
-    requires { length bytes.now ≤ 64 }
-    ensures { IfSome result (λ found. digits bytes.now ≡ Some found) }
-{
-    let mut number = 0;
-    for byte in bytes {
-        if !is_binary(*byte) {
-            return None;
-        }
-        number = number * 2 + u64::from(*byte - b'0');
-    }
-    Some(ShortDigits::binary(bytes.len(), number))
 }
 
 #[inline(never)]

@@ -3,7 +3,6 @@ pub mod Numbers
 pub mod Named
 pub mod Sources
 pub mod Lists
-pub mod Table
 pub mod History
 pub mod Instants
 pub mod WrittenDigits

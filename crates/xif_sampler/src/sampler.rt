@@ -19,7 +19,7 @@ use std::alloc::Global;
 use std::marker::Model;
 use vcd_text::{Declarations, Digits, Item};
 use xif_base::Params;
-use xif_signals::{Quad, Sample, Signal};
+use xif_signals::{Quad, Sample};
 
 /// Takes the items of a waveform in order, and returns the sample of each instant in which the
 /// clock rises: the values of the signals from before it.
@@ -157,10 +157,7 @@ fn is_zero_or_one(quad: Quad, number: u64) -> bool
 fn sample_from(quads: &[Quad; 29]) -> Sample
     ensures { result ≡ drop 1 quads.now }
 {
-    let signals = Signal::all();
-    let mut sample = Sample::new();
-    for i in 1..29 {
-        sample.set(signals[i], quads[i]);
-    }
-    sample
+    let mut signals = [quads[0]; 28];
+    signals.copy_from_slice(&quads[1..]);
+    Sample::from_quads(signals)
 }
