@@ -1,9 +1,11 @@
 -- Digits as two numbers.
-use Rattle.std.proofs.Common.{◌≡◌, ◌+◌, ◌-◌, ◌*◌, ◌/◌, ◌%◌, ◌^◌, ◌<◌, ◌≤◌, ℕ, zero, suc, [], ◌∷◌, ◌++◌, length, get_or, Some, refl, sym, ap, ◌∙◌, arith, ◌⊎◌, inl, inr}
+use Rattle.std.proofs.Common.{◌≡◌, ◌+◌, ◌-◌, ◌*◌, ◌/◌, ◌%◌, ◌^◌, ◌<◌, ◌≤◌, ℕ, zero, suc, List, [], ◌∷◌, ◌++◌, length, get_or, Some, refl, sym, ap, ◌∙◌, arith, ◌⊎◌, inl, inr, take}
 use Rattle.std.specs.List.{slice_get}
+use Rattle.std.proofs.Math.Nat.{pow-succ'}
+use Rattle.std.proofs.Math.Seq.{take-append_seam}
 use Rattle.std.proofs.lemmas.Bool.{cases_lt}
 use Rattle.std.proofs.lemmas.Bool.Decides.{nat_tests}
-use Rattle.std.proofs.lemmas.List.{length-append, get_or-append_right, get_or_append_left}
+use Rattle.std.proofs.lemmas.List.{append_cancel_left, length-append, get_or-append_right, get_or_append_left}
 use Rattle.std.proofs.lemmas.Nat.{shr-shr}
 use Rattle.std.proofs.lemmas.Option.{slice_get-get_or}
 use Rattle.vcd_text.specs.declared.digit.Digit.{Digit}
@@ -96,3 +98,38 @@ binary_is count a b e h k =
       below = rw count_is k;
       some = rw count_is h;
     }
+
+-- ---- digits that are no binary number
+
+bval_of-by : (a b : ℕ) → b < 2 → bval_of (digit_by a b) ≡ b
+bval_of-by a b h = grind (arith, nat_tests)
+
+-- what stands before the last digit, and the last digit
+same_front : (xs ys : List Digit) (d e : Digit) → length xs ≡ length ys → xs ++ d ∷ [] ≡ ys ++ e ∷ [] → xs ≡ ys
+same_front xs ys d e k h =
+    sym (take-append_seam xs (d ∷ [])) ∙ ap (take (length xs)) h ∙ ap (λ n. take n (ys ++ e ∷ [])) k ∙ take-append_seam ys (e ∷ [])
+
+same_last : (xs ys : List Digit) (d e : Digit) → length xs ≡ length ys → xs ++ d ∷ [] ≡ ys ++ e ∷ [] → d ≡ e
+same_last xs ys d e k h =
+    let ends : d ∷ [] ≡ e ∷ [] = append_cancel_left ys (d ∷ []) (e ∷ []) (ap (λ zs. zs ++ d ∷ []) (sym (same_front xs ys d e k h)) ∙ h) in
+    ap (λ ds. get_or ds 0 Zero) ends
+
+-- digits none of which is x or z
+digits_by-high : (count a b n : ℕ) → b < 2 ^ count → digits_by count a b ≡ digits_by count n 0 → b ≡ 0
+digits_by-high zero a b n h e = omega (arith, h)
+digits_by-high (suc count) a b n h e =
+    let fronts : length (digits_by count (a / 2) (b / 2)) ≡ length (digits_by count (n / 2) 0) = length-digits_by count (a / 2) (b / 2) ∙ sym (length-digits_by count (n / 2) 0) in
+    let twice : 2 ^ suc count ≡ 2 * 2 ^ count = pow-succ' 2 count in
+    let front : b / 2 ≡ 0 =
+    digits_by-high count (a / 2) (b / 2) (n / 2) (omega (arith, h, twice))
+    (same_front (digits_by count (a / 2) (b / 2)) (digits_by count (n / 2) 0) (digit_by (a % 2) (b % 2)) (digit_by (n % 2) 0) fronts e) in
+    let last : digit_by (a % 2) (b % 2) ≡ digit_by (n % 2) 0 =
+    same_last (digits_by count (a / 2) (b / 2)) (digits_by count (n / 2) 0) (digit_by (a % 2) (b % 2)) (digit_by (n % 2) 0) fronts e in
+    let even : b % 2 ≡ 0 = sym (bval_of-by (a % 2) (b % 2) (omega arith)) ∙ ap bval_of last ∙ bval_of-by (n % 2) 0 (omega arith) in
+    omega (arith, front, even)
+
+-- where they are a binary number, they are some and none of them is x or z
+pub binary_known : (count a b n : ℕ) → b < 2 ^ count → IsBinary (digits_by count a b) n → (b ≡ 0) × (0 < count)
+binary_known count a b n h is =
+    let count_is : length (digits_by count a b) ≡ count = length-digits_by count a b in
+    (digits_by-high count a b n h (is.same ∙ ap (λ k. digits_by k n 0) count_is), omega (arith, is.some, count_is))

@@ -1,5 +1,5 @@
 //! The digits of a value, and a value as a list of them.
-ghost use Rattle.std.specs.Prelude.{◌≡◌, ◌≤◌, ◌<◌, ◌^◌, [], ◌∷◌, Some, length, slice_get, IfOk, IfSome};
+ghost use Rattle.std.specs.Prelude.{◌≡◌, ◌≤◌, ◌<◌, ◌^◌, ℕ, [], ◌∷◌, Some, length, slice_get, IfOk, IfSome, IfNone};
 ghost use Rattle.vcd_text.specs.Vectors.{digits_by, IsBinary};
 
 use crate::short_digits::{SHORT, ShortDigits};
@@ -35,11 +35,13 @@ enum Repr {
 impl Model for Digits {
     ghost use Rattle.std.specs.Prelude.{List};
     ghost use Rattle.vcd_text.specs.declared.digit.Digit.{Digit};
-    ghost use Rattle.vcd_text.specs.Digits.{digits_in};
+    ghost use Rattle.vcd_text.specs.Digits.{digits_in, IsShortest};
 
     ghost Value = { List Digit };
 
     ghost view = { λ d. digits_in d.repr };
+
+    ghost invariant = { λ d. IsShortest d.repr };
 }
 
 impl Digits {
@@ -78,6 +80,7 @@ impl Digits {
     }
 
     pub(crate) fn long(digits: Vec<Digit>) -> Digits
+        requires { 64 < length digits.items }
         ensures { result ≡ digits.items }
     {
         Digits {
@@ -106,9 +109,11 @@ impl Digits {
         }
     }
 
-    /// The number that the digits write in binary, where there are 1 to 64 and each is 0 or 1.
+    /// The number that the digits write in binary. `None` where there are none or more than 64, or
+    /// one is x or z.
     pub fn number(&self) -> Option<u64>
-        ensures { IfSome result (IsBinary self.now) }
+        ensures some { IfSome result (IsBinary self.now) }
+        ensures none { IfNone result ((n : ℕ) → IsBinary self.now n → 64 < length self.now) }
     {
         match &self.repr {
             Repr::Short(digits) => digits.number(),

@@ -1,5 +1,5 @@
 //! A few digits of a value, as two numbers.
-ghost use Rattle.std.specs.Prelude.{◌≡◌, ◌≤◌, ◌<◌, ◌^◌, ◌++◌, Some, [], ◌∷◌, length, slice_get, IfSome};
+ghost use Rattle.std.specs.Prelude.{◌≡◌, ◌≤◌, ◌<◌, ◌^◌, ◌++◌, ℕ, Some, [], ◌∷◌, length, slice_get, IfSome, IfNone};
 ghost use Rattle.vcd_text.specs.Vectors.{digit_by, digits_by, aval_of, bval_of, IsBinary};
 
 use crate::Digit;
@@ -93,9 +93,10 @@ impl ShortDigits {
         digit_of((self.aval >> place) % 2, (self.bval >> place) % 2)
     }
 
-    /// The number that the digits write in binary, if there are some and each is 0 or 1.
+    /// The number that the digits write in binary. `None` where there are none, or one is x or z.
     pub fn number(&self) -> Option<u64>
-        ensures { IfSome result (IsBinary self.now) }
+        ensures some { IfSome result (IsBinary self.now) }
+        ensures none { IfNone result ((n : ℕ) → ¬ IsBinary self.now n) }
     {
         if self.bval == 0 && self.count != 0 {
             Some(self.aval)

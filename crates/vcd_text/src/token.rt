@@ -1,5 +1,5 @@
 //! What single tokens are.
-ghost use Rattle.std.specs.Prelude.{◌≡◌, ◌≤◌, ◌+◌, ◌++◌, ◌&&◌, nat_le, List, Some, length, true, false, IfOk, IfSome, IfNone};
+ghost use Rattle.std.specs.Prelude.{◌≡◌, ◌≤◌, ◌<◌, ◌+◌, ◌++◌, ◌&&◌, nat_le, List, Some, length, true, false, IfOk, IfSome, IfNone};
 ghost use Rattle.std.specs.List.{list_all};
 ghost use Rattle.std.specs.Str.{is_utf8};
 ghost use Rattle.vcd_text.specs.declared.digit.Digit.{Digit};
@@ -99,6 +99,7 @@ fn short_digits(bytes: &[u8]) -> Option<ShortDigits>
 
 #[inline(never)]
 fn long_digits(alloc: Global, bytes: &[u8]) -> Result<Option<Digits>, NoMemory>
+    requires { 64 < length bytes.now }
     ensures { IfOk result (λ found. found ≡ digits bytes.now) }
 {
     let mut found = Vec::with_capacity(alloc, bytes.len())?;
