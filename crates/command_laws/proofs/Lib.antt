@@ -5,3 +5,4 @@ pub mod Cycles
 pub mod Runs
 pub mod Verdicts
 pub mod Calls
+pub mod Generated

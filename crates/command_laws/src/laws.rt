@@ -1,4 +1,4 @@
-//! What `judge` says of the trace that `run` wrote.
+//! What `judge` says of the trace that `run` wrote, and that every call of `gen` has an answer.
 ghost use Rattle.std.specs.Prelude.{◌≡◌, ℕ, List, String, Ok};
 ghost use Rattle.std.specs.FinMap as map;
 ghost use Rattle.std.specs.declared.alloc.Global.{Global};
@@ -6,9 +6,12 @@ ghost use Rattle.xif_base.specs.Files.{Files};
 ghost use Rattle.xif_job.specs.declared.job.Job.{Job};
 ghost use Rattle.xif_cli.specs.declared.answer.End.{End};
 ghost use Rattle.xif_cli.specs.declared.answer.End.TheVariants.{Done};
-ghost use Rattle.xif_cli.specs.Ending.{Means};
-ghost use Rattle.xif_cli.specs.Outcome.{Answer, found};
+ghost use Rattle.xif_cli.specs.Ending.{Means, texts_of};
+ghost use Rattle.xif_cli.specs.Outcome.{Answer, Lookup, found};
+ghost use Rattle.xif_cli.specs.Sum.{PrintsTheSum};
 ghost use Rattle.xif_cli.specs.Verdict.{legal_line};
+ghost use Rattle.xif_cli.specs.Words as form;
+ghost use Rattle.xif_cli.specs.Words.{IsCommand};
 ghost use Rattle.command_laws.specs.Commands.{HoldBytes, SaysCycles, Runs, Calls, Judges, KeepsTrace, IsJudgedLegal};
 
 /// For every job and image for which `run` has an answer: where the trace stands in its file as the
@@ -33,4 +36,13 @@ pub fn judge_after_run_prints_legal()
         Judges judge_words later job → Calls judge_words later end after verdict →
         (end ≡ Done) × ((cycles : ℕ) × (SaysCycles cycles report
         × (verdict ≡ legal_line cycles))) }
+{}
+
+/// `gen` has an answer for every seed and count in their ranges, whatever files there are, and it
+/// prints the sum. So no such call is refused, and by `completes_as_defined` of `xif` it is done
+/// unless it is out of memory or its output fails.
+pub fn gen_is_answered()
+    ensures { (words : List (String Global)) (find : Lookup) (seed count : ℕ) →
+        IsCommand (texts_of words) (form.Gen seed count) →
+        (answer : Answer) × (Means words find (Ok answer) × PrintsTheSum seed count answer) }
 {}
