@@ -7,9 +7,9 @@
 //! has what they say of the two calls. `gen_is_answered` says that a call of `gen` is never refused,
 //! and what its answer prints.
 //!
-//! The first two rest on four laws: core and engine keep the rules (`trace_laws`); what they show fits the
-//! widths of the signals (`width_laws`); so the text of the waveform has samples that read as the
-//! buses again; and what is judged of the text is what the rules say of the buses
+//! The first two rest on four laws: core and engine keep the rules (`trace_laws`); what they show
+//! fits the widths of the signals (`width_laws`); so the text of the waveform has samples that read
+//! as the buses again; and what is judged of the text is what the rules say of the buses
 //! (`waveform_laws`).
 //!
 //! In `proofs/`, `Jobs` has what holds of each job that is read, `Images` that a memory has bytes,
