@@ -4,8 +4,8 @@
 //! `trace_is_judged_legal` is about `run`, and `judge` on the trace that it wrote: the verdict is
 //! `legal cycles=N`, with N the number of cycles in the report of the run.
 //! `judge_after_run_prints_legal` says the same of two calls of the program. `specs/Commands.antt`
-//! has what they say of the two calls. `gen_is_answered` says that a call of `gen` is never refused,
-//! and what its answer prints.
+//! has what they say of the two calls. `gen_is_answered` says that a call of `gen` is never
+//! refused, and what its answer prints.
 //!
 //! The first two rest on four laws: core and engine keep the rules (`trace_laws`); what they show
 //! fits the widths of the signals (`width_laws`); so the text of the waveform has samples that read

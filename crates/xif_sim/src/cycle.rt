@@ -51,8 +51,8 @@ pub fn one_cycle<P: Predictor>(
     ensures fits { FitsWidths (core.old).params result.0 }
     ensures counted { IsCountedBy (engine.new).cycle core.new }
 
-    // Each session goes on by the cycle, legal: also where harts take turns, and with the cycle that
-    // stops the core. Where none stops it, core and engine are those of the longer session.
+    // Each session goes on by the cycle, legal: also where harts take turns, and with the cycle
+    // that stops the core. Where none stops it, core and engine are those of the longer session.
     ensures legal { (setup : Setup) (session : List Bus) → IsInRange setup.params →
         Session setup hart (record { core = core.old; engine = engine.old }) session →
         IsLegalSession setup.params (result.0 ∷ session) }

@@ -1,8 +1,8 @@
 //! Simulates core and coprocessors on one bus: cycle by cycle, or a whole run.
 //!
 //! `one_cycle` takes a core and an engine through a cycle, and no premise of it speaks of both but
-//! that they have the same parameters. A `Setup` says what a run is made of. `simulate` keeps all of
-//! the run; a `Simulation` returns the same run cycle by cycle, for callers that write or count
+//! that they have the same parameters. A `Setup` says what a run is made of. `simulate` keeps all
+//! of the run; a `Simulation` returns the same run cycle by cycle, for callers that write or count
 //! what they get and keep nothing.
 //!
 //! What a cycle and a run are is defined in the crate `cycle_spec` (`Cycle` and `Run` there). Here

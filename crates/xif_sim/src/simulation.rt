@@ -73,8 +73,8 @@ impl Simulation {
         })
     }
 
-    /// Simulates a cycle: its bus and its log. `None` where the run is over: the machine stopped, or
-    /// the budget of cycles is used up and nothing is in flight, or its drain has taken as many
+    /// Simulates a cycle: its bus and its log. `None` where the run is over: the machine stopped,
+    /// or the budget of cycles is used up and nothing is in flight, or its drain has taken as many
     /// cycles as it may.
     pub fn next_cycle<P: Predictor>(&mut self, predictor: &mut P) -> Option<(Bus, CycleLog)>
         ensures over { IsNone result ↔ IsTrue (spec.is_over self.old) }
