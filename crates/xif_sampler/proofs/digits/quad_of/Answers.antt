@@ -5,4 +5,4 @@ use Rattle.xif_sampler.proofs.digits.quad_of.Goals as goal
 
 pub returns-in-Some : goal.returns-in-Some
 returns-in-Some c =
-    ap known_quad c.bits_of.ensures ∙ sym (quad_known c.args.digits.now c.in-Some.number c.args.low c.args.width c.in-Some.ensures)
+    ap known_quad c.bits_of.ensures ∙ sym (quad_known c.args.digits.now c.in-Some.number c.args.low c.args.width c.in-Some.ensures.some)
