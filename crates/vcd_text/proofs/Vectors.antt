@@ -118,17 +118,15 @@ same_last xs ys d e k h =
 digits_by-high : (count a b n : ℕ) → b < 2 ^ count → digits_by count a b ≡ digits_by count n 0 → b ≡ 0
 digits_by-high zero a b n h e = omega (arith, h)
 digits_by-high (suc count) a b n h e =
-    let front = digits_by count (a / 2) (b / 2) in
-    let last = digit_by (a % 2) (b % 2) in
-    let binary_front = digits_by count (n / 2) 0 in
-    let binary_last = digit_by (n % 2) 0 in
-    let sizes : length front ≡ length binary_front = length-digits_by count (a / 2) (b / 2) ∙ sym (length-digits_by count (n / 2) 0) in
-    let fronts : front ≡ binary_front = same_front front binary_front last binary_last sizes e in
-    let lasts : last ≡ binary_last = same_last front binary_front last binary_last sizes e in
+    let fronts : length (digits_by count (a / 2) (b / 2)) ≡ length (digits_by count (n / 2) 0) = length-digits_by count (a / 2) (b / 2) ∙ sym (length-digits_by count (n / 2) 0) in
     let twice : 2 ^ suc count ≡ 2 * 2 ^ count = pow-succ' 2 count in
-    let half : b / 2 ≡ 0 = digits_by-high count (a / 2) (b / 2) (n / 2) (omega (arith, h, twice)) fronts in
-    let even : b % 2 ≡ 0 = sym (bval_of-by (a % 2) (b % 2) (omega arith)) ∙ ap bval_of lasts ∙ bval_of-by (n % 2) 0 (omega arith) in
-    omega (arith, half, even)
+    let front : b / 2 ≡ 0 =
+    digits_by-high count (a / 2) (b / 2) (n / 2) (omega (arith, h, twice))
+    (same_front (digits_by count (a / 2) (b / 2)) (digits_by count (n / 2) 0) (digit_by (a % 2) (b % 2)) (digit_by (n % 2) 0) fronts e) in
+    let last : digit_by (a % 2) (b % 2) ≡ digit_by (n % 2) 0 =
+    same_last (digits_by count (a / 2) (b / 2)) (digits_by count (n / 2) 0) (digit_by (a % 2) (b % 2)) (digit_by (n % 2) 0) fronts e in
+    let even : b % 2 ≡ 0 = sym (bval_of-by (a % 2) (b % 2) (omega arith)) ∙ ap bval_of last ∙ bval_of-by (n % 2) 0 (omega arith) in
+    omega (arith, front, even)
 
 -- where they are a binary number, they are some and none of them is x or z
 pub binary_known : (count a b n : ℕ) → b < 2 ^ count → IsBinary (digits_by count a b) n → (b ≡ 0) × (0 < count)
