@@ -152,14 +152,6 @@ no_target dual_write r e n m = ap (λ t. not (r == 0) && t) (by_kind e.kind n m)
     by_kind Unknown n m = word_target dual_write e.response (rd_field e.word) r n m
     by_kind Nowhere n m = refl
 
-    clash : true ≡ false → ⊥
-    clash h = cc
-
-    by_kind : (kind : EntryKind) → is_unknown_kind kind ≡ false → r ≢ first_target_by kind e.word → may_write_kind dual_write kind e r ≡ false
-    by_kind (Local i) known n = target_is i r n
-    by_kind Unknown known n = absurd (clash known)
-    by_kind Nowhere known n = refl
-
 -- the oldest is gone, and doesn't write the register
 pub writer_passed : (dual_write : Bool) (e : Entry) (es : List Entry) (r : ℕ) → may_write dual_write r e ≡ false → writer_of dual_write (e ∷ es) r ≡ writer_of dual_write es r
 writer_passed dual_write e es r none =

@@ -2,10 +2,10 @@ use Rattle.std.proofs.Common.{◌∙◌, sym, ap, arith, length, length-set, get
 use Rattle.toml.specs.Data.{get_member}
 use Rattle.xif_signals.specs.Signal.{signal_number}
 use Rattle.xif_signals.specs.declared.signal.Signal.TheVariants.{Clk}
-use Rattle.xif_sampler.proofs.Table.{number_at}
 use Rattle.xif_job.specs.FieldTable.{place_in}
 use Rattle.xif_job.specs.Tables.{members}
 use Rattle.xif_job.proofs.Places.{placed}
+use Rattle.xif_job.proofs.Table.{number_at}
 use Rattle.xif_job.proofs.map.read_places.Goals as goal
 
 pub loop-signal-preserved : goal.loop-signal-preserved
