@@ -19,8 +19,40 @@ pub fn is_white(byte: u8) -> bool
     byte == b' ' || (9 <= byte && byte <= 13)
 }
 
+/// How many decimal digits can't exceed 64 bits.
+const SAFE_DIGITS: usize = 19;
+
 /// The decimal number that the bytes are, below 2^64.
 pub fn number(bytes: &[u8]) -> Option<u64>
+    ensures { result ≡ number bytes.now }
+{
+    // Nearly all times have few digits.
+    if bytes.len() <= SAFE_DIGITS {
+        safe_number(bytes)
+    } else {
+        long_number(bytes)
+    }
+}
+
+fn safe_number(bytes: &[u8]) -> Option<u64>
+    requires { length bytes.now ≤ 19 }
+    ensures { result ≡ number bytes.now }
+{
+    if bytes.is_empty() {
+        return None;
+    }
+    let mut value = 0;
+    for byte in bytes {
+        if !byte.is_ascii_digit() {
+            return None;
+        }
+        value = value * 10 + u64::from(*byte - b'0');
+    }
+    Some(value)
+}
+
+#[inline(never)]
+fn long_number(bytes: &[u8]) -> Option<u64>
     ensures { result ≡ number bytes.now }
 {
     if bytes.is_empty() {
