@@ -1,8 +1,8 @@
 -- Numbers of few decimal digits.
-use Rattle.std.proofs.Common.{◌≡◌, ◌<◌, ◌≤◌, ◌+◌, ◌-◌, ◌*◌, ◌^◌, ◌∙◌, ◌∷◌, ℕ, suc, true, List, None, if◌then◌else◌, nat_lt, nat_le, ◌&&◌, length, get_or, drop, drop-cons, ap, sym, refl, arith}
+use Rattle.std.proofs.Common.{◌≡◌, ◌<◌, ◌≤◌, ◌+◌, ◌-◌, ◌*◌, ◌^◌, ◌∙◌, ℕ, suc, true, List, None, if◌then◌else◌, nat_lt, ◌&&◌, length, get_or, drop, drop-cons, ap, sym, arith}
 use Rattle.std.proofs.Math.Nat.{pow-succ', pow-le-pow_right}
 use Rattle.std.proofs.lemmas.Bool.Decides.{nat_tests}
-use Rattle.vcd_text.specs.Words.{is_decimal, number, number_after}
+use Rattle.vcd_text.specs.Words.{is_decimal, number_after}
 
 pub decimal_digit : (b d : ℕ) → is_decimal b ≡ true → d ≡ b - 48 → d ≤ 9
 decimal_digit b d is e = grind (arith, nat_tests)

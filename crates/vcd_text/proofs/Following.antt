@@ -8,15 +8,15 @@ use Rattle.vcd_text.specs.declared.scanner.Scanner.{Scanner}
 use Rattle.vcd_text.specs.Words.{is_white, is_ink}
 use Rattle.vcd_text.specs.Tokens.{Token, rest, complete, token_before}
 use Rattle.vcd_text.specs.Reading.{Read, go, read_so_far}
-use Rattle.vcd_text.specs.Scanner.{Represents, Steps, TakesToken, outcome, read_by}
-use Rattle.vcd_text.proofs.Texts.{rest-append, read_so_far-append, faulty_front}
+use Rattle.vcd_text.specs.Scanner.{Represents, Steps, TakesTokens, outcome, read_by}
+use Rattle.vcd_text.proofs.Texts.{fold-append, rest-append, read_so_far-append, faulty_front}
 
 -- what one more byte completes
-complete-push : (run : List ℕ) (at b : ℕ) (w : Bool) → is_white b ≡ w → complete run at (b ∷ []) ≡ cond w (token_before at run) []
+pub complete-push : (run : List ℕ) (at b : ℕ) (w : Bool) → is_white b ≡ w → complete run at (b ∷ []) ≡ cond w (token_before at run) []
 complete-push run at b true e = rw e (append-nil (token_before at run))
 complete-push run at b false e = rw e refl
 
-rest-push : (run : List ℕ) (b : ℕ) (w : Bool) → is_white b ≡ w → rest run (b ∷ []) ≡ cond w [] (run ++ b ∷ [])
+pub rest-push : (run : List ℕ) (b : ℕ) (w : Bool) → is_white b ≡ w → rest run (b ∷ []) ≡ cond w [] (run ++ b ∷ [])
 rest-push run b true e = rw e refl
 rest-push run b false e = rw e refl
 
@@ -73,11 +73,11 @@ inked b bs h = by (is_white b) refl
     by true e = absurd (true≢false (sym h ∙ ap (λ w. not w && list_all is_ink bs) e))
     by false e = (e, sym (ap (λ w. not w && list_all is_ink bs) e) ∙ h)
 
-complete-ink : (run : List ℕ) (at : ℕ) (word : List ℕ) → list_all is_ink word ≡ true → complete run at word ≡ []
+pub complete-ink : (run : List ℕ) (at : ℕ) (word : List ℕ) → list_all is_ink word ≡ true → complete run at word ≡ []
 complete-ink run at [] h = refl
 complete-ink run at (b ∷ bs) h = let k = inked b bs h in rw k.0 (complete-ink (run ++ b ∷ []) (at + 1) bs k.1)
 
-rest-ink : (run word : List ℕ) → list_all is_ink word ≡ true → rest run word ≡ run ++ word
+pub rest-ink : (run word : List ℕ) → list_all is_ink word ≡ true → rest run word ≡ run ++ word
 rest-ink run [] h = sym (append-nil run)
 rest-ink run (b ∷ bs) h = let k = inked b bs h in rw k.0 (rest-ink (run ++ b ∷ []) bs k.1 ∙ append_assoc run (b ∷ []) bs)
 
@@ -93,28 +93,40 @@ follows-word old new text word taken none ink size run read h = record {
   run = λ _. run ∙ ap (λ x. x ++ word) (h.run none) ∙ sym (rest-ink (rest [] text) word ink) ∙ sym (rest-append [] text word);
 }
 
-pub follows-token : (old new : Scanner) (b : ℕ) (text token : List ℕ) (taken : List Item) → old.fault ≡ None → old.run.items ≡ [] → list_all is_ink token ≡ true → is_white b ≡ true
-    → TakesToken old new token → Represents old text taken → Represents new (text ++ token ++ b ∷ []) taken
-follows-token old new b text token taken none empty ink white s h =
+-- a token, white space, and some bytes that end in white space
+pub follows-tokens : (old new : Scanner) (b : ℕ) (text token more : List ℕ) (taken : List Item) → old.fault ≡ None → old.run.items ≡ [] → list_all is_ink token ≡ true → is_white b ≡ true
+    → TakesTokens old new token more → Represents old text taken → Represents new (text ++ token ++ b ∷ [] ++ more) taken
+follows-tokens old new b text token more taken none empty ink white s h =
+    let front = text ++ token ++ b ∷ [] in
     let size : old.size + length token ≡ length (text ++ token) = omega (arith, h.size none, length-append text token) in
     let run : token ≡ rest [] (text ++ token) =
     ap (λ x. x ++ token) (sym empty ∙ h.run none) ∙ sym (rest-ink (rest [] text) token ink) ∙ sym (rest-append [] text token) in
+    let closed : rest [] front ≡ [] = rest-append [] (text ++ token) (b ∷ []) ∙ rest-push (rest [] (text ++ token)) b true white in
+    let end : length front ≡ old.size + length token + 1 = omega (arith, size, length-append (text ++ token) (b ∷ [])) in
+    let first : fold go (read_by old taken) (token_before (old.size + length token) token) ≡ read_so_far front =
+    ap (λ r. fold go r (token_before (old.size + length token) token)) (h.read ∙ sym (read_so_far-ink text token ink))
+    ∙ ap (λ n. fold go (read_so_far (text ++ token)) (token_before n token)) size
+    ∙ ap (λ x. fold go (read_so_far (text ++ token)) (token_before (length (text ++ token)) x)) run
+    ∙ sym (read_so_far-push (text ++ token) b ∙ ap (λ w. cond w (fold go (read_so_far (text ++ token)) (token_before (length (text ++ token)) (rest [] (text ++ token)))) (read_so_far (text ++ token))) white) in
     record {
       read =
           s.read taken
-          ∙ ap (λ r. fold go r (token_before (old.size + length token) token)) (h.read ∙ sym (read_so_far-ink text token ink))
-          ∙ ap (λ n. fold go (read_so_far (text ++ token)) (token_before n token)) size
-          ∙ ap (λ x. fold go (read_so_far (text ++ token)) (token_before (length (text ++ token)) x)) run
-          ∙ sym (read_so_far-push (text ++ token) b ∙ ap (λ w. cond w (fold go (read_so_far (text ++ token)) (token_before (length (text ++ token)) (rest [] (text ++ token)))) (read_so_far (text ++ token))) white);
-      size = λ _. omega (arith, s.size, size, length-append (text ++ token) (b ∷ []));
-      run = λ _. s.run ∙ sym (rest-append [] (text ++ token) (b ∷ []) ∙ rest-push (rest [] (text ++ token)) b true white);
+          ∙ fold-append go (read_by old taken) (token_before (old.size + length token) token) (complete [] (old.size + length token + 1) more)
+          ∙ ap (λ r. fold go r (complete [] (old.size + length token + 1) more)) first
+          ∙ ap (λ n. fold go (read_so_far front) (complete [] n more)) (sym end)
+          ∙ ap (λ x. fold go (read_so_far front) (complete x (length front) more)) (sym closed)
+          ∙ sym (read_so_far-append front more);
+      size = λ _. omega (arith, s.size, size, length-append front more, length-append (text ++ token) (b ∷ []));
+      run = λ _. s.run ∙ sym (rest-append [] front more ∙ ap (λ x. rest x more) closed ∙ s.whole);
     }
 
 -- ---- a list in pieces
 
-pub three_parts : (rest word more tail : List ℕ) (n b : ℕ) → word ≡ take n rest → more ≡ drop n rest → more ≡ b ∷ tail → (text : List ℕ) → text ++ word ++ b ∷ [] ++ tail ≡ text ++ rest
-three_parts rest word more tail n b w m e text =
-    append_assoc (text ++ word) (b ∷ []) tail ∙ append_assoc text word (b ∷ tail)
+pub parts_again : (rest word more tail last : List ℕ) (n b k : ℕ) → word ≡ take n rest → more ≡ drop n rest → more ≡ b ∷ tail → last ≡ drop k tail
+    → (text : List ℕ) → text ++ word ++ b ∷ [] ++ take k tail ++ last ≡ text ++ rest
+parts_again rest word more tail last n b k w m e l text =
+    append_assoc (text ++ word ++ b ∷ []) (take k tail) last ∙ ap (λ x. text ++ word ++ b ∷ [] ++ (take k tail ++ x)) l ∙ ap (λ x. text ++ word ++ b ∷ [] ++ x) (take-append-drop k tail)
+    ∙ append_assoc (text ++ word) (b ∷ []) tail ∙ append_assoc text word (b ∷ tail)
     ∙ ap (λ x. text ++ (word ++ x)) (sym e ∙ m) ∙ ap (λ x. text ++ (x ++ drop n rest)) w ∙ ap (λ x. text ++ x) (take-append-drop n rest)
 
 pub one_part : (rest word more : List ℕ) (n : ℕ) → word ≡ take n rest → more ≡ drop n rest → length more ≡ 0 → word ≡ rest

@@ -3,6 +3,7 @@ pub mod CodeTable
 pub mod ShortCodes
 pub mod Following
 pub mod Ink
+pub mod Ahead
 pub mod Decimals
 pub mod Vectors
 pub mod Front

@@ -11,6 +11,8 @@ use std::simd::prelude::*;
 const TURN: usize = 8;
 
 /// The digits that the bytes are, if each is `0` or `1`.
+// Inlined, as all below: most vectors are short, and a call would take as long as their digits.
+#[inline(always)]
 pub fn binary_digits(bytes: &[u8]) -> Option<ShortDigits>
     requires { length bytes.now ≤ 64 }
     ensures { IfSome result (λ found. digits bytes.now ≡ Some found) }
@@ -24,6 +26,7 @@ pub fn binary_digits(bytes: &[u8]) -> Option<ShortDigits>
 
 /// The number that the bytes write in binary, if each is `0` or `1`. It goes in turns of a fixed
 /// length, which take less work than a test of each byte.
+#[inline(always)]
 fn number_of_turns(bytes: &[u8]) -> Option<u64>
     requires few { length bytes.now ≤ 64 }
     requires whole { length bytes.now % 8 ≡ 0 }
@@ -58,6 +61,7 @@ fn turn_number(bytes: &[u8]) -> Option<u64>
 }
 
 /// The number that the bytes write in binary, if each is `0` or `1`.
+#[inline(always)]
 fn number_of_bytes(bytes: &[u8]) -> Option<u64>
     requires { length bytes.now ≤ 64 }
     ensures { IfSome result (IsWritten bytes.now) }

@@ -56,9 +56,7 @@ impl Digits {
     pub fn one(digit: Digit) -> Digits
         ensures { result ≡ digit ∷ [] }
     {
-        let mut digits = ShortDigits::new();
-        digits.push(digit);
-        Digits::short(digits)
+        Digits::short(ShortDigits::one(digit))
     }
 
     /// These digits.

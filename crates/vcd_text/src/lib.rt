@@ -36,11 +36,13 @@ mod scanner;
 mod scopes;
 mod short_codes;
 mod short_digits;
+mod span;
 mod state;
 mod step;
 mod stop;
 mod token;
 mod value;
+mod vector;
 mod word;
 mod writer;
 

@@ -1,15 +1,16 @@
 //! From bytes to tokens, and what they say.
-ghost use Rattle.std.specs.Prelude.{◌≡◌, ◌<◌, ◌≤◌, ◌^◌, ◌+◌, ◌++◌, [], ◌∷◌, ℕ, List, true, take, None, length, OnOk};
+ghost use Rattle.std.specs.Prelude.{◌≡◌, ◌<◌, ◌≤◌, ◌^◌, ◌+◌, ◌++◌, [], ◌∷◌, ℕ, List, true, take, None, length, OnOk, IfOk, IsErr};
 ghost use Rattle.std.specs.List.{fold, list_all};
 ghost use Rattle.vcd_text.specs.Words.{is_ink};
 ghost use Rattle.vcd_text.specs.declared.item.Item.{Item};
 ghost use Rattle.vcd_text.specs.Reading.{go, fault_at_end};
-ghost use Rattle.vcd_text.specs.Scanner.{Represents, Steps, TakesToken, HasRoom, read_by, outcome};
+ghost use Rattle.vcd_text.specs.Scanner.{Represents, Steps, TakesTokens, HasRoom, tokens_of, read_by};
 ghost use Rattle.vcd_text.specs.Sound.{IsSoundRead, Onward};
-ghost use Rattle.vcd_text.specs.Tokens.{token_before};
+ghost use Rattle.vcd_text.specs.Tokens.{rest, token_before};
 
 use crate::codes::Codes;
 use crate::scopes::Scopes;
+use crate::span::word_len;
 use crate::state::{Part, State};
 use crate::stop::Stop;
 use crate::token::is_white;
@@ -17,7 +18,6 @@ use crate::{Declarations, Item, VcdCause, VcdFault};
 use std::alloc::Global;
 use std::collections::VecDeque;
 use std::mem;
-use std::simd::prelude::*;
 use xif_base::NoMemory;
 
 /// Takes a text in, byte by byte, up to its first fault.
@@ -73,8 +73,8 @@ impl Scanner {
             let (word, more) = rest.split_at(word_len(rest));
             match more.split_first() {
                 Some((next, tail)) => {
-                    self.word_and(word, *next)?;
-                    rest = tail;
+                    let taken = self.word_and(word, *next, tail)?;
+                    rest = &tail[taken..];
                 }
                 None => {
                     self.word(word)?;
@@ -85,28 +85,31 @@ impl Scanner {
         Ok(())
     }
 
-    /// Takes bytes that aren't white space, and the one behind them.
-    fn word_and(&mut self, word: &[u8], next: u8) -> Result<(), NoMemory>
-        requires room { self.old.size + length word.now + 1 < 2 ^ 32 }
+    /// Takes bytes that aren't white space, the one behind them, and some of the tail behind that.
+    /// Returns how many bytes of the tail it took.
+    fn word_and(&mut self, word: &[u8], next: u8, tail: &[u8]) -> Result<usize, NoMemory>
+        requires room { self.old.size + length word.now + 1 + length tail.now < 2 ^ 32 }
         requires codes { HasRoom self.old }
         requires ink { list_all is_ink word.now ≡ true }
-        ensures size { self.new.size ≤ self.old.size + length word.now + 1 }
+        ensures within { IfOk result (λ taken. taken ≤ length tail.now) }
+        ensures size { IfOk result (λ taken.
+            self.new.size ≤ self.old.size + length word.now + 1 + taken) }
+        ensures short { IsErr result → self.new.size ≤ self.old.size + length word.now + 1 }
         ensures codes { OnOk result (HasRoom self.new) }
-        ensures follows { OnOk result ((text : List ℕ) (taken : List Item) →
+        ensures follows { IfOk result (λ n. (text : List ℕ) (taken : List Item) →
             Represents self.old text taken
-            → Represents self.new (text ++ word.now ++ next ∷ []) taken) }
+            → Represents self.new (text ++ word.now ++ next ∷ [] ++ take n tail.now) taken) }
         ensures onward { OnOk result (Onward (read_by self.old []) (read_by self.new [])) }
     {
         if let Some(_) = self.fault {
-            return Ok(());
+            return Ok(0);
         }
         if self.run.is_empty() && is_white(next) {
-            self.whole_token(word)?;
-            return Ok(());
+            return self.whole_token(word, tail);
         }
         self.word(word)?;
         self.byte(next)?;
-        Ok(())
+        Ok(0)
     }
 
     /// Takes bytes that aren't white space. Behind a fault nothing is looked at.
@@ -128,19 +131,22 @@ impl Scanner {
         Ok(())
     }
 
-    /// Takes a whole token, and the white space behind it, where none is open.
-    fn whole_token(&mut self, token: &[u8]) -> Result<(), NoMemory>
+    /// Takes a whole token, and the white space behind it, where none is open. Returns how many
+    /// bytes of the tail behind that it took, as `token` does.
+    fn whole_token(&mut self, token: &[u8], tail: &[u8]) -> Result<usize, NoMemory>
         requires sound { self.old.fault ≡ None }
         requires run { self.old.run.items ≡ [] }
-        requires room { self.old.size + length token.now + 1 < 2 ^ 32 }
+        requires room { self.old.size + length token.now + 1 + length tail.now < 2 ^ 32 }
         requires codes { HasRoom self.old }
-        ensures size { self.new.size ≤ self.old.size + length token.now + 1 }
+        ensures within { IfOk result (λ taken. taken ≤ length tail.now) }
+        ensures short { IsErr result → self.new.size ≤ self.old.size + length token.now + 1 }
         ensures codes { OnOk result (HasRoom self.new) }
-        ensures steps { OnOk result (TakesToken self.old self.new token.now) }
+        ensures takes { IfOk result (λ n.
+            TakesTokens self.old self.new token.now (take n tail.now)) }
     {
-        self.token(self.size + token.len() as u64, token)?;
-        self.size += token.len() as u64 + 1;
-        Ok(())
+        let taken = self.token(self.size + token.len() as u64, token, tail)?;
+        self.size += token.len() as u64 + 1 + taken as u64;
+        Ok(taken)
     }
 
     /// Takes a byte. Behind a fault nothing is looked at.
@@ -192,41 +198,41 @@ impl Scanner {
         ensures onward { OnOk result (Onward (read_by self.old []) (read_by self.new [])) }
     {
         let mut run = mem::replace(&mut self.run, Vec::new(self.alloc));
-        self.token(self.size, &run)?;
+        self.token(self.size, &run, &[])?;
         // The next token that is cut in two gets this one's memory.
         run.clear();
         self.run = run;
         Ok(())
     }
 
-    /// Reads a token that ends before an offset, if it has a byte.
-    fn token(&mut self, end: u64, token: &[u8]) -> Result<(), NoMemory>
+    /// Reads a token that ends before an offset, if it has a byte. White space stands behind it,
+    /// and behind that a tail. If the token is the digits of a change, and the tail begins with the
+    /// code, that may be read too. Returns how many bytes of the tail were read.
+    fn token(&mut self, end: u64, token: &[u8], tail: &[u8]) -> Result<usize, NoMemory>
         requires sound { self.old.fault ≡ None }
+        requires room { end < 2 ^ 32 }
         requires codes { length self.old.state.codes < 2 ^ 32 }
+        ensures within { IfOk result (λ taken. taken ≤ length tail.now) }
         ensures size { self.new.size ≡ self.old.size }
         ensures run { self.new.run ≡ self.old.run }
         ensures codes { OnOk result
             (length self.new.state.codes ≤ length self.old.state.codes + length token.now) }
-        ensures read { OnOk result ((taken : List Item) →
-            read_by self.new taken
-            ≡ fold go (read_by self.old taken) (token_before end token.now)) }
+        ensures whole { IfOk result (λ n. rest [] (take n tail.now) ≡ []) }
+        ensures read { IfOk result (λ n. (taken : List Item) →
+            read_by self.new taken ≡ fold go (read_by self.old taken)
+            (tokens_of end token.now (take n tail.now))) }
     {
         if token.is_empty() {
-            return Ok(());
+            return Ok(0);
         }
-        let at = end.saturating_sub(token.len() as u64);
-        match self.state.step(self.alloc, at, token) {
-            Ok(None) => Ok(()),
-            Ok(Some(item)) => {
-                self.items.push_back(item)?;
-                Ok(())
-            }
-            Err(Stop::Fault(fault)) => {
-                self.fault = Some(fault);
-                Ok(())
-            }
-            Err(Stop::NoMemory) => Err(NoMemory),
+        let (step, taken) = self.state.take(self.alloc, end, token, tail);
+        match step {
+            Ok(None) => {}
+            Ok(Some(item)) => self.items.push_back(item)?,
+            Err(Stop::Fault(fault)) => self.fault = Some(fault),
+            Err(Stop::NoMemory) => return Err(NoMemory),
         }
+        Ok(taken)
     }
 
     /// The fault of a text that ends here.
@@ -252,54 +258,4 @@ impl Scanner {
             }),
         }
     }
-}
-
-/// How many bytes `word_len` looks at in one turn.
-const TURN: usize = 16;
-
-/// How many bytes come before a byte that may be white space: none of them is. It goes in turns of
-/// a fixed length, which take less work than a test of each byte.
-fn word_len(bytes: &[u8]) -> usize
-    ensures within { result ≤ length bytes.now }
-    ensures ink { list_all is_ink (take result bytes.now) ≡ true }
-{
-    let mut len = 0;
-    while TURN <= bytes.len() - len {
-        let more = turn_len(&bytes[len..len + TURN]);
-        len += more;
-        if more < TURN {
-            return len;
-        }
-    }
-    len + ink_len(&bytes[len..])
-}
-
-/// How many bytes of a turn come before one that is not above a space: all white space is so low.
-#[inline(always)]
-fn turn_len(bytes: &[u8]) -> usize
-    requires { length bytes.now ≡ 16 }
-    ensures within { result ≤ 16 }
-    ensures ink { list_all is_ink (take result bytes.now) ≡ true }
-{
-    let low = u8x16::from_slice(bytes)
-        .simd_le(u8x16::splat(b' '))
-        .to_bitmask();
-    if low == 0 {
-        TURN
-    } else {
-        low.trailing_zeros() as usize
-    }
-}
-
-/// How many bytes come before white space.
-fn ink_len(bytes: &[u8]) -> usize
-    ensures within { result ≤ length bytes.now }
-    ensures ink { list_all is_ink (take result bytes.now) ≡ true }
-{
-    for (i, byte) in bytes.iter().enumerate() {
-        if is_white(*byte) {
-            return i;
-        }
-    }
-    bytes.len()
 }

@@ -42,6 +42,17 @@ impl ShortDigits {
         }
     }
 
+    /// One digit.
+    pub fn one(digit: Digit) -> ShortDigits
+        ensures { result ≡ digit ∷ [] }
+    {
+        ShortDigits {
+            count: 1,
+            aval: aval_of(digit),
+            bval: bval_of(digit),
+        }
+    }
+
     /// A number in binary.
     pub fn binary(count: usize, number: u64) -> ShortDigits
         requires few { count ≤ 64 }

@@ -8,7 +8,7 @@ ghost use Rattle.vcd_text.specs.Words.{number, digit, digits, is_end};
 use crate::keyword::Keyword;
 use crate::state::{Part, State};
 use crate::stop::Stop;
-use crate::token::{digit, digits, is_end, keyword, number};
+use crate::token::{digits, is_end, keyword, number, one_digit};
 use crate::word::{Word, Words};
 use crate::{Digits, Item, VcdCause};
 use std::alloc::Global;
@@ -123,6 +123,8 @@ impl State {
         Ok(Some(Item::Time(time)))
     }
 
+    // Nearly all vectors are taken by `take`, with their codes.
+    #[inline(never)]
     fn vector(&mut self, alloc: Global, at: u64, bytes: &[u8]) -> Result<Option<Item>, Stop>
         ensures { StepsTo self.old self.new result (vector self.old at (digits bytes.now)) }
     {
@@ -152,18 +154,18 @@ impl State {
     fn scalar(&self, at: u64, first: u8, code: &[u8]) -> Result<Option<Item>, Stop>
         ensures { StepsTo self.now self.now result (scalar self.now at (digit first) code.now) }
     {
-        let Some(found) = digit(first) else {
+        let Some(found) = one_digit(first) else {
             return Stop::fault(VcdCause::BadToken, at);
         };
         if code.is_empty() {
             return Stop::fault(VcdCause::BadToken, at);
         }
-        self.change(at, Digits::one(found), at, code)
+        self.change(at, Digits::short(found), at, code)
     }
 
     /// Returns a change of a code. The code is tested before the width.
     #[inline(always)]
-    fn change(
+    pub fn change(
         &self,
         at: u64,
         digits: Digits,

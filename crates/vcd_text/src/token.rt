@@ -1,6 +1,7 @@
 //! What single tokens are.
-ghost use Rattle.std.specs.Prelude.{◌≡◌, ◌≤◌, ◌<◌, ◌+◌, ◌++◌, ◌&&◌, nat_le, List, Some, length, true, false, IfOk, IfSome, IfNone};
+ghost use Rattle.std.specs.Prelude.{◌≡◌, ◌≤◌, ◌<◌, ◌+◌, ◌++◌, ◌&&◌, nat_le, List, Some, [], ◌∷◌, length, true, false, IfOk, IfSome, IfNone};
 ghost use Rattle.std.specs.List.{list_all};
+ghost use Rattle.std.specs.Option.{option_map};
 ghost use Rattle.std.specs.Str.{is_utf8};
 ghost use Rattle.vcd_text.specs.declared.digit.Digit.{Digit};
 ghost use Rattle.vcd_text.specs.Words.{is_white, zero_digit, number, digit, digits, keyword, is_end, is_command, is_code_character, is_code};
@@ -66,6 +67,16 @@ fn long_number(bytes: &[u8]) -> Option<u64>
         value = value.checked_mul(10)?.checked_add(u64::from(*byte - b'0'))?;
     }
     Some(value)
+}
+
+/// The digit of a value that a byte is, alone.
+pub fn one_digit(byte: u8) -> Option<ShortDigits>
+    ensures { result ≡ option_map (λ d. d ∷ []) (digit byte) }
+{
+    if is_binary(byte) {
+        return Some(ShortDigits::binary(1, u64::from(byte - b'0')));
+    }
+    digit(byte).map(ShortDigits::one)
 }
 
 /// The digit of a value that a byte is.

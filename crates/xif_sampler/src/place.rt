@@ -92,7 +92,7 @@ impl SignalMap {
         &self.places[usize::from(signal.number())]
     }
 
-    /// FindsAs a signal this place, and leaves those of the others.
+    /// Gives a signal this place, and leaves those of the others as they are.
     pub fn set(&mut self, signal: Signal, place: Place)
         ensures { self.new ≡ slice_set self.old (signal_number signal) place }
     {

@@ -1,4 +1,4 @@
-use Rattle.std.proofs.Common.{◌≡◌, ◌≤◌, ◌<◌, ◌+◌, ◌*◌, ◌^◌, ◌∙◌, sym, arith}
+use Rattle.std.proofs.Common.{◌∙◌, sym, arith}
 use Rattle.vcd_text.proofs.Decimals.{decimal_digit, decimal_below, decimal_fits, decimal_after}
 use Rattle.vcd_text.proofs.token.safe_number.Goals as goal
 

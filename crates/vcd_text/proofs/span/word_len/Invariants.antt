@@ -1,7 +1,7 @@
 use Rattle.std.proofs.Common.{◌≡◌, ◌≤◌, ◌-◌, true, take, length}
 use Rattle.std.specs.List.{list_all}
 use Rattle.vcd_text.specs.Words.{is_ink}
-use Rattle.vcd_text.proofs.scanner.word_len.Given as goal
+use Rattle.vcd_text.proofs.span.word_len.Given as goal
 
 abbrev pub invariant-loop-len : goal.invariant-loop-len
 invariant-loop-len l = record {

@@ -5,7 +5,7 @@ use Rattle.std.specs.List.{prefix_len}
 use Rattle.std.proofs.lemmas.List.Sums.{prefix_len-le-length}
 use Rattle.std.proofs.lemmas.Simd.{length-chunk, bitmask_splat, leading_from_mask_l, trailing_mask_l}
 use Rattle.vcd_text.proofs.Ink.{ink_before}
-use Rattle.vcd_text.proofs.scanner.turn_len.Goals as goal
+use Rattle.vcd_text.proofs.span.turn_len.Goals as goal
 
 pub returns-then-low-eq0-clause-ink : goal.returns-then-low-eq0-clause-ink
 returns-then-low-eq0-clause-ink c =

@@ -1,6 +1,6 @@
 use Rattle.std.proofs.Common.{◌+◌, length, arith}
 use Rattle.vcd_text.proofs.Ink.{ink_more}
-use Rattle.vcd_text.proofs.scanner.word_len.Goals as goal
+use Rattle.vcd_text.proofs.span.word_len.Goals as goal
 
 pub returns-then-more-lt-TURN-clause-ink : goal.returns-then-more-lt-TURN-clause-ink
 returns-then-more-lt-TURN-clause-ink c =
